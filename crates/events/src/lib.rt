@@ -1,0 +1,5 @@
+// What passes through the ring: events by their words, the two kinds of them, and the reasons why a call is turned down.
+pub mod cue;
+pub mod event;
+pub mod packet;
+pub mod refusal;
