@@ -1,4 +1,6 @@
 -- The table of refusals: the number that each reason has. Assumes nothing.
+use mathlib.Core.Bool.{Bool, cond}
+use mathlib.Core.List.{List, [], _∷_}
 use Prim.Native.Nat.{ℕ}
 use Rattle.events.specs.declared.refusal.Refusal.{Refusal}
 use Rattle.events.specs.declared.refusal.Refusal.the-variants.{FileSize, EventKind, Capacity, StageCount, SequencerKind, ProducerCount, Start, Section, StageRecord, PacketRange, SizeMismatch, CallCode, NoSuchProducer, NoSuchStage, NoSuchEvent, ClaimOpen, Amount, SequencesExhausted, NoPlace, NoClaim, ClaimFull, ClaimNotFull, NothingSeen, NothingToCommit, NotOpen}
@@ -41,3 +43,8 @@ pub data Reply (A : Type 0) : Type 0 where
 abbrev pub reply : {A : Type 0} → Result A Refusal → Reply A
 reply (Ok a) = accepted a
 reply (Err why) = refused (number why)
+
+-- The answer, unless a test before it holds: then the refusal of the first that does.
+abbrev pub unless : {A : Type 0} → List (Bool × ℕ) → Reply A → Reply A
+unless [] answer = answer
+unless (test ∷ tests) answer = cond (test .0) (refused (test .1)) (unless tests answer)
