@@ -44,7 +44,17 @@ abbrev pub reply : {A : Type 0} → Result A Refusal → Reply A
 reply (Ok a) = accepted a
 reply (Err why) = refused (number why)
 
+-- the same, of what the value means
+abbrev pub replied : {A B : Type 0} → (A → B) → Result A Refusal → Reply B
+replied means (Ok a) = accepted (means a)
+replied means (Err why) = refused (number why)
+
 -- The answer, unless a test before it holds: then the refusal of the first that does.
 abbrev pub unless : {A : Type 0} → List (Bool × ℕ) → Reply A → Reply A
 unless [] answer = answer
 unless (test ∷ tests) answer = cond (test .0) (refused (test .1)) (unless tests answer)
+
+-- What a call leaves: a refusal leaves all as it was.
+abbrev pub left : {A B : Type 0} → Reply A → B → B → B
+left (accepted a) before after = after
+left (refused n) before after = before

@@ -1,1 +1,3 @@
 pub mod Bank
+pub mod Plan
+pub mod Reach

@@ -1,2 +1,4 @@
-// A bank of stages and the plan by which events pass through it, one after another.
+// A bank of stages, the plan by which they depend on one another, and the run of events through them, one after another.
 pub mod bank;
+pub mod plan;
+pub mod reach;
