@@ -1,3 +1,4 @@
 pub mod Bank
+pub mod InOrder
 pub mod Plan
 pub mod Reach

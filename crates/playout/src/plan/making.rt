@@ -2,8 +2,10 @@
 ghost use mathlib.Core.Path.{_≡_};
 ghost use Rattle.events.specs.Refusals.{replied};
 ghost use Rattle.playout.specs.Plan.{layout, planned};
+ghost use Rattle.playout.specs.Reach.{reachOf, Reaches};
 use crate::plan::Plan;
 use crate::reach::Masks;
+use crate::reach::reach;
 use events::refusal::Refusal;
 
 pub const MOST_STAGES: usize = 8;
@@ -47,5 +49,13 @@ impl Plan {
         ensures { λ r. ⌜ r ≡ layout (now (self .entry)) .stages ⌝ }
     {
         self.stages
+    }
+
+    // The reach of stage i, as a mask: every stage in its mask together with their reaches.
+    pub fn reach(&self, i: usize) -> u8
+        ensures value { λ r. ⌜ r ≡ reachOf (layout (now (self .entry)) .masks) i ⌝ }
+        ensures reaches { λ r. ⌜ Reaches (layout (now (self .entry)) .masks) i r ⌝ }
+    {
+        reach(&self.masks, i)
     }
 }

@@ -1,0 +1,74 @@
+-- The steps of the one-after-another run. Assumes nothing.
+use mathlib.Core.Path.{_≡_, refl, sym, ap, _∙_}
+use mathlib.Core.Bool.{true, false, not, _||_}
+use mathlib.Core.List.{List, [], _∷_, map}
+use mathlib.Core.Logic.{_⊎_}
+use Prim.Native.Nat.{ℕ, zero, suc, min, _+_, _^_, _≤_, _<_}
+use native.Mathlib.Numerals.{add-one}
+use native.Mathlib.Omega.{arith}
+use lib.Dec.{eqb, ltb}
+use lib.ListN.{length, getD, set, replicate}
+use Rattle.events.specs.Refusals.{Reply, accepted, refused, left}
+use Rattle.playout.specs.Bank.{handledBy, markBy}
+use Rattle.playout.specs.InOrder.{Pass, Played, handling, passed, played, playedAnswer, rowOf, shown, stagesAfter}
+use Rattle.playout.specs.Plan.{Layout}
+use Rattle.playout.specs.Reach.{reachOf}
+use Rattle.stages.specs.Meaning.{Given, Meaning}
+use Rattle.std.proofs.shelf.Counted.{fill-by-all}
+use Rattle.std.proofs.shelf.Ways.{tells}
+use Rattle.std.specs.Iters.{counting}
+
+pub passed-none : (masks : List ℕ) (sequence : ℕ) (words : List ℕ) (stages : List Meaning) → record { stages = stages; row = replicate 8 0 } ≡ passed masks sequence words stages 0
+unfolding passed
+passed-none masks sequence words stages = refl
+
+pub passed-more : (masks : List ℕ) (sequence : ℕ) (words : List ℕ) (stages : List Meaning) (i : ℕ) → handling masks sequence words i (passed masks sequence words stages i) ≡ passed masks sequence words stages (i + 1)
+unfolding passed
+passed-more masks sequence words stages i = sym (ap (passed masks sequence words stages) (add-one i))
+
+pub after-none : (l : Layout) (bank : List Meaning) (words : ℕ → List ℕ) → bank ≡ stagesAfter l bank words 0
+unfolding stagesAfter
+after-none l bank words = refl
+
+pub after-more : (l : Layout) (bank : List Meaning) (words : ℕ → List ℕ) (k : ℕ) → passed (l .masks) (l .start + k) (words k) (stagesAfter l bank words k) (l .stages) .stages ≡ stagesAfter l bank words (k + 1)
+unfolding stagesAfter
+after-more l bank words k = sym (ap (stagesAfter l bank words) (add-one k))
+
+-- what a call of the bank does, shown the marks that it is to be shown
+pub handled : (masks : List ℕ) (sequence : ℕ) (words : List ℕ) (i : ℕ) (p : Pass) (marks : List ℕ) (reach : ℕ) (after : List Meaning) (mark : ℕ) → reach ≡ reachOf masks i → marks ≡ shown reach (p .row) → after ≡ handledBy (p .stages) i (record { sequence = sequence; words = words; marks = marks }) → mark ≡ markBy (p .stages) i (record { sequence = sequence; words = words; marks = marks }) → record { stages = after; row = set (p .row) i mark } ≡ handling masks sequence words i p
+handled masks sequence words i p marks reach after mark reached showed grew marked =
+    let g : List ℕ → Given = λ ms. record { sequence = sequence; words = words; marks = ms } in
+    let step : List ℕ → Pass = λ ms. record { stages = handledBy (p .stages) i (g ms); row = set (p .row) i (markBy (p .stages) i (g ms)) } in
+    let one : List Meaning → Pass = λ st. record { stages = st; row = set (p .row) i mark } in
+    let two : ℕ → Pass = λ m. record { stages = handledBy (p .stages) i (g marks); row = set (p .row) i m } in
+    ap one grew ∙ ap two marked ∙ ap step (showed ∙ ap (λ r. shown r (p .row)) reached)
+
+-- what the call leaves, by its answer
+by-answer : Layout → List Meaning → List (List ℕ) → List (List ℕ) → Reply (Unit {0}) → Played
+by-answer l bank events rows answer = record {
+  answer = answer;
+  stages = left answer bank (stagesAfter l bank (λ k. getD events k []) (length events));
+  rows = left answer rows (map (rowOf l bank (λ k. getD events k [])) (counting 0 (length events)));
+}
+
+module _ (l : Layout) (bank : List Meaning) (events rows : List (List ℕ)) (size : ℕ) (tells-size : size ≡ min (length bank) 9) (few : l .stages ≤ 8) where
+  pub played-size : (size ≡ l .stages → length rows ≡ length events → ⊥) → record { answer = refused 11; stages = bank; rows = rows } ≡ played l bank events rows
+  unfolding by-answer
+  played-size other =
+      let answer : playedAnswer l (length bank) (length events) (length rows) ≡ refused 11 = grind (arith, tells) in
+      sym (ap (by-answer l bank events rows) answer)
+
+  pub played-far : size ≡ l .stages → length rows ≡ length events → 2 ^ 62 < l .start + length events → record { answer = refused 18; stages = bank; rows = rows } ≡ played l bank events rows
+  unfolding by-answer
+  played-far same whole far =
+      let answer : playedAnswer l (length bank) (length events) (length rows) ≡ refused 18 = grind (arith, tells) in
+      sym (ap (by-answer l bank events rows) answer)
+
+  pub played-all : size ≡ l .stages → length rows ≡ length events → l .start + length events ≤ 2 ^ 62 → (after : List Meaning) (written : List (List ℕ)) → after ≡ stagesAfter l bank (λ k. getD events k []) (length events) → length written ≡ length events → ((n : ℕ) → n < length events → getD written n [] ≡ rowOf l bank (λ k. getD events k []) n) → record { answer = accepted tt; stages = after; rows = written } ≡ played l bank events rows
+  unfolding by-answer
+  played-all same whole near after written stages long each =
+      let answer : playedAnswer l (length bank) (length events) (length rows) ≡ accepted tt = grind (arith, tells) in
+      let filled : written ≡ map (rowOf l bank (λ k. getD events k [])) (counting 0 (length events)) = fill-by-all (rowOf l bank (λ k. getD events k [])) written (length events) [] long each in
+      let one : List Meaning → Played = λ st. record { answer = accepted tt; stages = st; rows = written } in
+      let two : List (List ℕ) → Played = λ rs. record { answer = accepted tt; stages = stagesAfter l bank (λ k. getD events k []) (length events); rows = rs } in
+      ap one stages ∙ ap two filled ∙ sym (ap (by-answer l bank events rows) answer)

@@ -1,0 +1,73 @@
+// The one-after-another run: what any room is compared with.
+ghost use mathlib.Core.Path.{_≡_};
+ghost use mathlib.Core.Bool.{cond};
+ghost use mathlib.Core.List.{map};
+ghost use Prim.Native.Nat.{_<_};
+ghost use lib.ListN.{getD};
+ghost use Rattle.events.specs.Refusals.{reply};
+ghost use Rattle.playout.specs.InOrder.{passed, played, shown};
+ghost use Rattle.playout.specs.Plan.{layout};
+ghost use Rattle.playout.specs.Reach.{names};
+use crate::bank::Bank;
+use crate::plan::Plan;
+use crate::plan::making::LAST_START;
+use crate::reach::names;
+use events::event::Event;
+use events::refusal::Refusal;
+use stages::stage::Marks;
+
+// Plays the events from the plan's start on, one after another, and writes the marks that each one got into its row.
+pub fn play_in_order<E: Event, B: Bank<E>>(
+    plan: &Plan,
+    bank: &mut B,
+    events: &[E],
+    rows: &mut [Marks],
+) -> Result<(), Refusal>
+    ensures { λ r. ⌜ record { answer = reply r; stages = B·Bank .stages (now (bank .exit)); rows = now (rows .exit) } ≡ played (layout (now (plan .entry))) (B·Bank .stages (now (bank .entry))) (map (E·Event .words) (now (events .entry))) (now (rows .entry)) ⌝ }
+{
+    if bank.size() != plan.stages() || rows.len() != events.len() {
+        return Err(Refusal::SizeMismatch);
+    }
+    if events.len() as u64 > LAST_START - plan.start() {
+        return Err(Refusal::SequencesExhausted);
+    }
+    for k in 0..events.len() {
+        rows[k] = pass(plan, bank, plan.start() + k as u64, &events[k]);
+    }
+    Ok(())
+}
+
+// Takes one event through all stages in number order, and gives its row of marks.
+fn pass<E: Event, B: Bank<E>>(plan: &Plan, bank: &mut B, sequence: u64, event: &E) -> Marks
+    ensures { λ r. ⌜ record { stages = B·Bank .stages (now (bank .exit)); row = r } ≡ passed (layout (now (plan .entry)) .masks) sequence (E·Event .words (now (event .entry))) (B·Bank .stages (now (bank .entry))) (layout (now (plan .entry)) .stages) ⌝ }
+{
+    let mut row = [0; 8];
+    for i in 0..plan.stages() {
+        let marks = show(plan.reach(i), &row);
+        row[i] = bank.handle(i, sequence, event, &marks);
+    }
+    row
+}
+
+// The marks of a row that a stage of this reach is shown, and 0 elsewhere.
+pub fn show(reach: u8, row: &Marks) -> Marks
+    ensures { λ r. ⌜ r ≡ shown reach (now (row .entry)) ⌝ }
+{
+    [
+        shown_mark(reach, row, 0),
+        shown_mark(reach, row, 1),
+        shown_mark(reach, row, 2),
+        shown_mark(reach, row, 3),
+        shown_mark(reach, row, 4),
+        shown_mark(reach, row, 5),
+        shown_mark(reach, row, 6),
+        shown_mark(reach, row, 7),
+    ]
+}
+
+fn shown_mark(reach: u8, row: &Marks, j: usize) -> u32
+    requires { ⌜ j < 8 ⌝ }
+    ensures { λ r. ⌜ r ≡ cond (names reach j) (getD (now (row .entry)) j 0) 0 ⌝ }
+{
+    if names(reach, j) { row[j] } else { 0 }
+}
