@@ -13,12 +13,7 @@ pub fn u32_at(bytes: &[u8], at: usize) -> Option<u32>
     if bytes.len() < 4 || bytes.len() - 4 < at {
         return None;
     }
-    Some(u32::from_le_bytes([
-        bytes[at],
-        bytes[at + 1],
-        bytes[at + 2],
-        bytes[at + 3],
-    ]))
+    Some(u32::from_le_bytes([bytes[at], bytes[at + 1], bytes[at + 2], bytes[at + 3]]))
 }
 
 // The 64-bit number at a place, if it lies within the bytes.

@@ -66,6 +66,7 @@ names-one k j named = go (cases-order j k)
         ∙ ap (λ n. eqb (n / 2 ^ j % 2) 1) (pow-add 2 (suc m) j)
         ∙ ap (λ n. eqb (n % 2) 1) (shl-shr (2 ^ suc m) j)
         ∙ ap (λ n. eqb n 1) (let one : 2 ^ suc m ≡ 1 * 2 ^ suc m = omega arith in ap (λ n. n % 2) one ∙ shifted-even 1 m)
+
     go : (j ≡ k) ⊎ ((j < k) ⊎ (k < j)) → j ≡ k
     go (inl e) = e
     go (inr (inl h)) = absurd (true≢false (sym named ∙ high (k - j - 1) (omega arith)))

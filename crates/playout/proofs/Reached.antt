@@ -51,6 +51,7 @@ sound masks (suc n) mask j h = go (names mask n) refl (sound masks n mask j) (so
     reached : From masks (maskOf masks n) j → Reach masks n j
     reached (inl named) = direct named
     reached (inr (k, named, on)) = through named on
+
     pick : names mask n ≡ true → (names (reachBelow masks mask n) j ≡ true → From masks mask j) → (names (reachBelow masks (maskOf masks n) n) j ≡ true → From masks (maskOf masks n) j) → ((names (reachBelow masks mask n) j || names (2 ^ n) j) ≡ true) ⊎ (names (reachBelow masks (maskOf masks n) n) j ≡ true) → From masks mask j
     pick e lower up (inr on) = inr (n, e, reached (up on))
     pick e lower up (inl on) = first (or-either (names (reachBelow masks mask n) j) (names (2 ^ n) j) on)
@@ -58,6 +59,7 @@ sound masks (suc n) mask j h = go (names mask n) refl (sound masks n mask j) (so
         first : (names (reachBelow masks mask n) j ≡ true) ⊎ (names (2 ^ n) j ≡ true) → From masks mask j
         first (inl low) = lower low
         first (inr own) = inl (ap (names mask) (names-one n j own) ∙ e)
+
     go : (b : Bool) → names mask n ≡ b → (names (reachBelow masks mask n) j ≡ true → From masks mask j) → (names (reachBelow masks (maskOf masks n) n) j ≡ true → From masks (maskOf masks n) j) → From masks mask j
     go false e lower up = lower (ap (λ b. names (cond b (bitOr (bitOr (reachBelow masks mask n) (2 ^ n)) (reachBelow masks (maskOf masks n) n)) (reachBelow masks mask n)) j) (sym e) ∙ h)
     go true e lower up =
@@ -78,12 +80,14 @@ complete masks (suc n) mask k j h named on = go (names mask n) refl (cases-order
         own : (j ≡ k) ⊎ (names (reachOf masks k) j ≡ true) → ((names (reachBelow masks mask n) j || names (2 ^ n) j) || names (reachBelow masks (maskOf masks n) n) j) ≡ true
         own (inl same) = or-left (names (reachBelow masks mask n) j || names (2 ^ n) j) (names (reachBelow masks (maskOf masks n) n) j) (or-right (names (reachBelow masks mask n) j) (names (2 ^ n) j) (ap (names (2 ^ n)) (same ∙ e) ∙ names-own n))
         own (inr on) = or-right (names (reachBelow masks mask n) j || names (2 ^ n) j) (names (reachBelow masks (maskOf masks n) n) j) (ap (λ i. names (reachOf masks i) j) (sym e) ∙ on)
+
     later : (b : Bool) → names mask n ≡ b → names (reachBelow masks mask n) j ≡ true → names (reachBelow masks mask (suc n)) j ≡ true
     later false m low = ap (λ b. names (cond b (bitOr (bitOr (reachBelow masks mask n) (2 ^ n)) (reachBelow masks (maskOf masks n) n)) (reachBelow masks mask n)) j) m ∙ low
     later true m low =
         ap (λ b. names (cond b (bitOr (bitOr (reachBelow masks mask n) (2 ^ n)) (reachBelow masks (maskOf masks n) n)) (reachBelow masks mask n)) j) m
         ∙ three (reachBelow masks mask n) (2 ^ n) (reachBelow masks (maskOf masks n) n) j
         ∙ or-left (names (reachBelow masks mask n) j || names (2 ^ n) j) (names (reachBelow masks (maskOf masks n) n) j) (or-left (names (reachBelow masks mask n) j) (names (2 ^ n) j) low)
+
     go : (b : Bool) → names mask n ≡ b → (k ≡ n) ⊎ ((k < n) ⊎ (n < k)) → (k < n → names (reachBelow masks mask n) j ≡ true) → names (reachBelow masks mask (suc n)) j ≡ true
     go b m (inl e) low = here e (ap (names mask) (sym e) ∙ named)
     go b m (inr (inl l)) low = later b m (low l)

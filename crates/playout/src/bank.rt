@@ -52,24 +52,18 @@ pub impl<E: Event, S: Stage<E>> Bank<E> for Last<S> as LastBank {
     }
 
     fn count(&self, i: usize) -> usize {
-        match i {
-            0 => self.stage.count(),
-            _ => 0,
-        }
+        if i == 0 { self.stage.count() } else { 0 }
     }
 
     fn figure(&self, i: usize, k: usize) -> u64 {
-        match i {
-            0 => self.stage.figure(k),
-            _ => 0,
-        }
+        if i == 0 { self.stage.figure(k) } else { 0 }
     }
 
     fn handle(&mut self, i: usize, sequence: u64, event: &E, marks: &Marks) -> u32 {
-        match i {
-            0 => self.stage.handle(sequence, event, marks),
-            _ => 0,
+        if i != 0 {
+            return 0;
         }
+        self.stage.handle(sequence, event, marks)
     }
 }
 

@@ -3,7 +3,7 @@ use mathlib.Core.Bool.{Bool, true, false, cond}
 use mathlib.Core.List.{List, [], _∷_, map}
 use Prim.Native.Nat.{ℕ, suc, _+_, _-_, _*_, _/_, _%_}
 use lib.Dec.{ltb, eqb}
-use lib.ListN.{getD, set}
+use lib.ListN.{getD, replicate, set}
 use Rattle.stages.specs.Cues.{channelOf, actionOf, itemOf}
 use Rattle.stages.specs.Meaning.{Meaning, oneMore}
 use Rattle.stages.specs.declared.air.Air.{Air}
@@ -73,6 +73,10 @@ air figures = record {
   grow = λ old g. grown old (channelOf (g .words)) (airShows old (g .words));
   mark = λ old g. ignored (airShows old (g .words));
 }
+
+-- at first: every channel is black
+abbrev pub freshAir : Air
+freshAir = record { obeyed = 0; channels = replicate 16 Black }
 
 -- Its figures are the cues not ignored, and then the 16 channels.
 abbrev pub airFigures : Air → List ℕ

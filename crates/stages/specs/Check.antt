@@ -3,7 +3,7 @@ use mathlib.Core.Bool.{cond}
 use mathlib.Core.List.{List, [], _∷_, map}
 use Prim.Native.Nat.{ℕ, suc, _+_}
 use lib.Dec.{ltb, eqb}
-use lib.ListN.{getD, set}
+use lib.ListN.{getD, replicate, set}
 use Rattle.stages.specs.Cues.{channelOf, actionOf, frameOf}
 use Rattle.stages.specs.Meaning.{Meaning, oneMore}
 use Rattle.stages.specs.declared.check.Check.{Check}
@@ -47,6 +47,10 @@ check figures = record {
   grow = λ old g. checkGrow old (g .words);
   mark = λ old g. checkMark old (g .words);
 }
+
+-- at first: nothing good or bad, and no good frame on any channel
+abbrev pub freshCheck : Check
+freshCheck = record { good = 0; bad = 0; last = replicate 16 None }
 
 -- A channel's last good frame as a figure: the frame plus 1, or 0 if there is none.
 abbrev pub lastFigure : Option ℕ → ℕ

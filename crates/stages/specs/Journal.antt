@@ -3,6 +3,7 @@ use mathlib.Core.List.{List, [], _∷_}
 use Prim.Native.Nat.{ℕ, _+_, _*_, _%_, _^_}
 use lib.ListN.{getD}
 use Rattle.stages.specs.Meaning.{Given, Meaning, oneMore}
+use Rattle.stages.specs.declared.journal.Journal.{Journal}
 
 abbrev pub folded : ℕ → ℕ → ℕ
 folded c w = (31 * c + w) % 2 ^ 32
@@ -23,3 +24,9 @@ journal figures = record {
   grow = λ old g. oneMore (getD old 0 0) ∷ folded (getD old 1 0) (code g) ∷ [];
   mark = λ _ g. code g;
 }
+
+abbrev pub freshJournal : Journal
+freshJournal = record { handled = 0; digest = 0 }
+
+abbrev pub journalFigures : Journal → List ℕ
+journalFigures s = s .handled ∷ s .digest ∷ []

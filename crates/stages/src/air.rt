@@ -1,10 +1,9 @@
 // Air: what each channel shows.
 ghost use mathlib.Core.Path.{_≡_};
 ghost use mathlib.Core.List.{map};
-ghost use lib.ListN.{length, getD, replicate};
+ghost use lib.ListN.{length, getD};
 ghost use Rattle.events.specs.Words.{cueWords};
-ghost use Rattle.stages.specs.Air.{air, airFigures, actionNamed, obeyed, settled, shownFigure};
-ghost use Rattle.stages.specs.declared.air.Shown.the-variants.{Black};
+ghost use Rattle.stages.specs.Air.{actionNamed, air, airFigures, freshAir, obeyed, settled, shownFigure};
 use crate::figures::Figures;
 use crate::stage::Marks;
 use crate::stage::Stage;
@@ -79,7 +78,7 @@ pub struct Air {
 
 impl Air {
     pub fn new() -> Air
-        ensures { λ r. ⌜ r ≡ record { obeyed = 0; channels = replicate 16 Black } ⌝ }
+        ensures { λ r. ⌜ r ≡ freshAir ⌝ }
     {
         Air {
             obeyed: 0,

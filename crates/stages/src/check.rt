@@ -1,10 +1,9 @@
 // Check: can the cue be played, and does it come in order?
 ghost use mathlib.Core.Path.{_≡_};
 ghost use mathlib.Core.List.{map};
-ghost use lib.ListN.{length, getD, replicate};
+ghost use lib.ListN.{length, getD};
 ghost use Rattle.events.specs.Words.{cueWords};
-ghost use Rattle.stages.specs.Check.{check, checkFigures, checkMark, lastFigure, verdictMark};
-ghost use Rattle.std.specs.declared.option.Option.the-variants.{None};
+ghost use Rattle.stages.specs.Check.{check, checkFigures, checkMark, freshCheck, lastFigure, verdictMark};
 use crate::figures::Figures;
 use crate::stage::Marks;
 use crate::stage::Stage;
@@ -42,7 +41,7 @@ pub struct Check {
 
 impl Check {
     pub fn new() -> Check
-        ensures { λ r. ⌜ r ≡ record { good = 0; bad = 0; last = replicate 16 None } ⌝ }
+        ensures { λ r. ⌜ r ≡ freshCheck ⌝ }
     {
         Check {
             good: 0,

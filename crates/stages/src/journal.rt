@@ -1,7 +1,6 @@
 // Journal: a fingerprint of everything that was handled.
 ghost use mathlib.Core.Path.{_≡_};
-ghost use mathlib.Core.List.{[], _∷_};
-ghost use Rattle.stages.specs.Journal.{journal, folded};
+ghost use Rattle.stages.specs.Journal.{folded, freshJournal, journal, journalFigures};
 use crate::figures::Figures;
 use crate::stage::Marks;
 use crate::stage::Stage;
@@ -16,7 +15,7 @@ pub struct Journal {
 impl Journal {
     // A journal that has handled nothing.
     pub fn new() -> Journal
-        ensures { λ r. ⌜ r ≡ record { handled = 0; digest = 0 } ⌝ }
+        ensures { λ r. ⌜ r ≡ freshJournal ⌝ }
     {
         Journal {
             handled: 0,
@@ -33,7 +32,7 @@ fn fold(code: u32, word: u64) -> u32
 }
 
 pub impl Figures for Journal as JournalFigures {
-    ghost figures = { λ s. s .handled ∷ s .digest ∷ [] };
+    ghost figures = { journalFigures };
 
     fn count(&self) -> usize {
         2
@@ -49,7 +48,7 @@ pub impl Figures for Journal as JournalFigures {
 }
 
 pub impl<E: Event> Stage<E> for Journal as JournalStage {
-    ghost means = { λ s. journal (s .handled ∷ s .digest ∷ []) };
+    ghost means = { λ s. journal (journalFigures s) };
 
     fn handle(&mut self, sequence: u64, event: &E, _marks: &Marks) -> u32 {
         let mut code = fold(0, sequence);

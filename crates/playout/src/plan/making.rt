@@ -9,6 +9,7 @@ use crate::reach::reach;
 use events::refusal::Refusal;
 
 pub const MOST_STAGES: usize = 8;
+
 pub const LAST_START: u64 = 1 << 62;
 
 impl Plan {

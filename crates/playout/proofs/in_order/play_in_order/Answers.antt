@@ -42,13 +42,14 @@ loop-k-again g c =
     let first : c .start-in-loop-k .result + k ≡ l .start + k = ap (λ n. n + k) (c .start-in-loop-k .ensures) in
     let now : Pass = record { stages = g .B·Bank .stages (c .pass .last .bank); row = c .pass .result } in
     let done : now ≡ passed (l .masks) (l .start + k) (words k) (stagesAfter l bank words k) (l .stages) =
-        c .pass .ensures
-        ∙ ap (λ s. passed (l .masks) s (g .E·Event .words (c .index-events-k .result)) (g .B·Bank .stages (c .loop-k .bank)) (l .stages)) first
-        ∙ ap (λ w. passed (l .masks) (l .start + k) w (g .B·Bank .stages (c .loop-k .bank)) (l .stages)) event
-        ∙ ap (λ st. passed (l .masks) (l .start + k) (words k) st (l .stages)) (c .loop-k .inv .0) in
-    (ap (λ p. p .stages) done ∙ after-more l bank words k,
+    c .pass .ensures
+    ∙ ap (λ s. passed (l .masks) s (g .E·Event .words (c .index-events-k .result)) (g .B·Bank .stages (c .loop-k .bank)) (l .stages)) first
+    ∙ ap (λ w. passed (l .masks) (l .start + k) w (g .B·Bank .stages (c .loop-k .bank)) (l .stages)) event
+    ∙ ap (λ st. passed (l .masks) (l .start + k) (words k) st (l .stages)) (c .loop-k .inv .0) in (
+      ap (λ p. p .stages) done ∙ after-more l bank words k,
       λ n h. ap (λ row. getD (set (c .loop-k .rows) k row) n []) (ap (λ p. p .row) done)
-      ∙ fill-by-more (rowOf l bank words) (c .loop-k .rows) k [] (omega arith) (c .loop-k .inv .1) n h)
+          ∙ fill-by-more (rowOf l bank words) (c .loop-k .rows) k [] (omega arith) (c .loop-k .inv .1) n h,
+    )
 
 pub returns : need.returns
 returns g c =

@@ -29,19 +29,25 @@ loop-i-again c =
     let i = c .loop-i .i in
     let here : eqb (getD masks i 0 / 2 ^ i) 0 ≡ true = eq-eqb (getD masks i 0 / 2 ^ i) 0 (omega arith) in
     let split : lower i (drop i masks) ≡ (eqb (getD masks i 0 / 2 ^ i) 0 && lower (suc i) (drop (i + 1) masks)) = at-drop-more (lower i) masks i 0 (omega arith) in
-    let rest : lower 0 masks ≡ lower (suc i) (drop (i + 1) masks) = c .loop-i .inv .1 ∙ split ∙ ap (λ b. b && lower (suc i) (drop (i + 1) masks)) here in
-    (ap (λ all. set all i (getD masks i 0)) (c .loop-i .inv .0) ∙ front-more 8 masks i (omega arith) (omega arith),
-      rest ∙ ap (λ n. lower n (drop (i + 1) masks)) (sym (add-one i)))
+    let rest : lower 0 masks ≡ lower (suc i) (drop (i + 1) masks) = c .loop-i .inv .1 ∙ split ∙ ap (λ b. b && lower (suc i) (drop (i + 1) masks)) here in (
+      ap (λ all. set all i (getD masks i 0)) (c .loop-i .inv .0) ∙ front-more 8 masks i (omega arith) (omega arith),
+      rest ∙ ap (λ n. lower n (drop (i + 1) masks)) (sym (add-one i)),
+    )
 
 pub ghost-result : need.ghost-result
 ghost-result c =
     let masks = c .args .masks .now in
     let all = stored-all (c .loop-i .all) masks (c .loop-i .i) (omega arith) (c .loop-i .inv .0) in
-    let low = lower-all masks (c .loop-i .i) (c .loop-i-test .left) (c .loop-i .inv .1) in
-    (omega arith,
-      (omega arith,
-        (omega arith,
-          (ap length all ∙ stored-length masks (omega arith), (subst Ordered (sym all) (lower-ordered masks (8 - length masks) low), tt)))))
+    let low = lower-all masks (c .loop-i .i) (c .loop-i-test .left) (c .loop-i .inv .1) in (
+      omega arith,
+      (
+        omega arith,
+        (
+          omega arith,
+          (ap length all ∙ stored-length masks (omega arith), (subst Ordered (sym all) (lower-ordered masks (8 - length masks) low), tt)),
+        ),
+      ),
+    )
 
 pub returns : need.returns
 returns c =
