@@ -9,11 +9,11 @@ use Rattle.asrun.specs.declared.report.Fault.the-variants.{CutShort, OutOfMemo
 use Rattle.events.specs.Records.{cueAt}
 use Rattle.events.specs.Words.{cueWords}
 use Rattle.events.specs.declared.cue.Cue.{Cue}
-use Rattle.playout.specs.Bank.{figuresOf}
+use Rattle.bank.specs.Bank.{figuresOf}
 use Rattle.playout.specs.InOrder.{rowOf, stagesAfter}
 use Rattle.playout.specs.Plan.{Layout}
-use Rattle.stages.specs.Air.{air, airFigures}
-use Rattle.stages.specs.Check.{check, checkFigures}
+use Rattle.cue_stages.specs.Air.{air, airFigures}
+use Rattle.cue_stages.specs.Check.{check, checkFigures}
 use Rattle.stages.specs.Journal.{journal}
 use Rattle.stages.specs.Meaning.{Meaning}
 use Rattle.stages.specs.Sieve.{sieved}

@@ -2,7 +2,7 @@
 ghost use Rattle.events.specs.Words.{cueWords, blankCue};
 use crate::event::Event;
 
-#[derive(Clone, Copy, PartialEq, Eq, Debug)]
+#[derive(Clone, Copy)]
 pub struct Cue {
     pub channel: u8,
     pub action: u8,

@@ -9,7 +9,7 @@ use crate::event::Event;
 use crate::refusal::Refusal;
 
 // A plain record: anyone may fill it in. Unchecked, a channel above 15 counts as 15 and a length above 64 as 64.
-#[derive(Clone, Copy, PartialEq, Eq, Debug)]
+#[derive(Clone, Copy)]
 pub struct Packet {
     pub channel: u8,
     pub length: u8,

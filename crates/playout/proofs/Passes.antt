@@ -1,6 +1,6 @@
 -- The steps of the one-after-another run. Assumes nothing.
 use mathlib.Core.Path.{_≡_, refl, sym, ap, _∙_}
-use mathlib.Core.Bool.{true, false, not, _||_}
+use mathlib.Core.Bool.{Bool, true, false, cond, not, _||_}
 use mathlib.Core.List.{List, [], _∷_, map}
 use mathlib.Core.Logic.{_⊎_}
 use Prim.Native.Nat.{ℕ, zero, suc, min, _+_, _^_, _≤_, _<_}
@@ -8,13 +8,14 @@ use native.Mathlib.Numerals.{add-one}
 use native.Mathlib.Omega.{arith}
 use lib.Dec.{eqb, ltb}
 use lib.ListN.{length, getD, set, replicate}
-use Rattle.events.specs.Refusals.{Reply, accepted, refused, left}
-use Rattle.playout.specs.Bank.{handledBy, markBy}
+use Rattle.events.specs.Refusals.{Reply, accepted, left, refused, unless}
+use Rattle.bank.specs.Bank.{handledBy, markBy}
 use Rattle.playout.specs.InOrder.{Pass, Played, handling, passed, played, playedAnswer, rowOf, shown, stagesAfter}
 use Rattle.playout.specs.Plan.{Layout}
 use Rattle.playout.specs.Reach.{reachOf}
 use Rattle.stages.specs.Meaning.{Given, Meaning}
 use Rattle.std.proofs.shelf.Counted.{fill-by-all}
+use Rattle.std.proofs.shelf.Tests.{ltb-false}
 use Rattle.std.proofs.shelf.Ways.{tells}
 use Rattle.std.specs.Iters.{counting}
 
@@ -51,24 +52,30 @@ by-answer l bank events rows answer = record {
   rows = left answer rows (map (rowOf l bank (λ k. getD events k [])) (counting 0 (length events)));
 }
 
+-- what an accepted call knows of the sizes
+pub sizes-fit : (l : Layout) (size events rows : ℕ) → accepted tt ≡ playedAnswer l size events rows → (rows ≡ events) × (l .start + events ≤ 2 ^ 62)
+sizes-fit l size events rows e = go (not (eqb size (l .stages)) || not (eqb rows events)) refl (ltb (2 ^ 62) (l .start + events)) refl e
+  where
+    go : (a : Bool) → (not (eqb size (l .stages)) || not (eqb rows events)) ≡ a → (b : Bool) → ltb (2 ^ 62) (l .start + events) ≡ b → _≡_ {A = Reply (Unit {0})} (accepted tt) (cond a (refused 11) (cond b (refused 18) (accepted tt))) → (rows ≡ events) × (l .start + events ≤ 2 ^ 62)
+    go true ea b eb e = let z : _≡_ {A = ℕ} 0 1 = cc in absurd (omega arith)
+    go false ea true eb e = let z : _≡_ {A = ℕ} 0 1 = cc in absurd (omega arith)
+    go false ea false eb e = (grind (arith, tells), ltb-false (2 ^ 62) (l .start + events) eb)
+
 module _ (l : Layout) (bank : List Meaning) (events rows : List (List ℕ)) (size : ℕ) (tells-size : size ≡ min (length bank) 9) (few : l .stages ≤ 8) where
-  pub played-size : (size ≡ l .stages → length rows ≡ length events → ⊥) → record { answer = refused 11; stages = bank; rows = rows } ≡ played l bank events rows
-  unfolding by-answer
-  played-size other =
-      let answer : playedAnswer l (length bank) (length events) (length rows) ≡ refused 11 = grind (arith, tells) in
-      sym (ap (by-answer l bank events rows) answer)
+  -- a size of 9 or more is no plan's
+  same-answer : playedAnswer l size (length events) (length rows) ≡ playedAnswer l (length bank) (length events) (length rows)
+  same-answer =
+      let same : eqb size (l .stages) ≡ eqb (length bank) (l .stages) = grind (arith, tells) in
+      ap (λ b. unless ((not b || not (eqb (length rows) (length events)), 11) ∷ (ltb (2 ^ 62) (l .start + length events), 18) ∷ []) (accepted tt)) same
 
-  pub played-far : size ≡ l .stages → length rows ≡ length events → 2 ^ 62 < l .start + length events → record { answer = refused 18; stages = bank; rows = rows } ≡ played l bank events rows
+  pub played-refused : (n : ℕ) → refused n ≡ playedAnswer l size (length events) (length rows) → record { answer = refused n; stages = bank; rows = rows } ≡ played l bank events rows
   unfolding by-answer
-  played-far same whole far =
-      let answer : playedAnswer l (length bank) (length events) (length rows) ≡ refused 18 = grind (arith, tells) in
-      sym (ap (by-answer l bank events rows) answer)
+  played-refused n e = ap (by-answer l bank events rows) (e ∙ same-answer)
 
-  pub played-all : size ≡ l .stages → length rows ≡ length events → l .start + length events ≤ 2 ^ 62 → (after : List Meaning) (written : List (List ℕ)) → after ≡ stagesAfter l bank (λ k. getD events k []) (length events) → length written ≡ length events → ((n : ℕ) → n < length events → getD written n [] ≡ rowOf l bank (λ k. getD events k []) n) → record { answer = accepted tt; stages = after; rows = written } ≡ played l bank events rows
+  pub played-all : accepted tt ≡ playedAnswer l size (length events) (length rows) → (after : List Meaning) (written : List (List ℕ)) → after ≡ stagesAfter l bank (λ k. getD events k []) (length events) → length written ≡ length events → ((n : ℕ) → n < length events → getD written n [] ≡ rowOf l bank (λ k. getD events k []) n) → record { answer = accepted tt; stages = after; rows = written } ≡ played l bank events rows
   unfolding by-answer
-  played-all same whole near after written stages long each =
-      let answer : playedAnswer l (length bank) (length events) (length rows) ≡ accepted tt = grind (arith, tells) in
+  played-all e after written stages long each =
       let filled : written ≡ map (rowOf l bank (λ k. getD events k [])) (counting 0 (length events)) = fill-by-all (rowOf l bank (λ k. getD events k [])) written (length events) [] long each in
       let one : List Meaning → Played = λ st. record { answer = accepted tt; stages = st; rows = written } in
       let two : List (List ℕ) → Played = λ rs. record { answer = accepted tt; stages = stagesAfter l bank (λ k. getD events k []) (length events); rows = rs } in
-      ap one stages ∙ ap two filled ∙ sym (ap (by-answer l bank events rows) answer)
+      ap one stages ∙ ap two filled ∙ ap (by-answer l bank events rows) (e ∙ same-answer)

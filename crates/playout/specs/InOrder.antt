@@ -6,7 +6,7 @@ use Prim.Native.Nat.{ℕ, zero, suc, _+_, _^_}
 use lib.Dec.{eqb, ltb}
 use lib.ListN.{getD, length, replicate, set}
 use Rattle.events.specs.Refusals.{Reply, accepted, unless, left}
-use Rattle.playout.specs.Bank.{handledBy, markBy}
+use Rattle.bank.specs.Bank.{handledBy, markBy}
 use Rattle.playout.specs.Plan.{Layout}
 use Rattle.playout.specs.Reach.{names, reachOf}
 use Rattle.stages.specs.Meaning.{Given, Meaning}

@@ -1,4 +1,3 @@
-pub mod Bank
 pub mod InOrder
 pub mod Plan
 pub mod Reach

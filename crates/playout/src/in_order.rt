@@ -5,13 +5,13 @@ ghost use mathlib.Core.List.{map};
 ghost use Prim.Native.Nat.{_<_};
 ghost use lib.ListN.{getD};
 ghost use Rattle.events.specs.Refusals.{reply};
-ghost use Rattle.playout.specs.InOrder.{passed, played, shown};
+ghost use Rattle.playout.specs.InOrder.{passed, played, playedAnswer, shown};
 ghost use Rattle.playout.specs.Plan.{layout};
 ghost use Rattle.playout.specs.Reach.{names};
-use crate::bank::Bank;
 use crate::plan::Plan;
 use crate::plan::making::LAST_START;
 use crate::reach::names;
+use bank::Bank;
 use events::event::Event;
 use events::refusal::Refusal;
 use stages::stage::Marks;
@@ -25,14 +25,22 @@ pub fn play_in_order<E: Event, B: Bank<E>>(
 ) -> Result<(), Refusal>
     ensures { λ r. ⌜ record { answer = reply r; stages = B·Bank .stages (now (bank .exit)); rows = now (rows .exit) } ≡ played (layout (now (plan .entry))) (B·Bank .stages (now (bank .entry))) (map (E·Event .words) (now (events .entry))) (now (rows .entry)) ⌝ }
 {
-    if bank.size() != plan.stages() || rows.len() != events.len() {
-        return Err(Refusal::SizeMismatch);
-    }
-    if events.len() as u64 > LAST_START - plan.start() {
-        return Err(Refusal::SequencesExhausted);
-    }
+    check_sizes(plan, bank.size(), events.len(), rows.len())?;
     for k in 0..events.len() {
         rows[k] = pass(plan, bank, plan.start() + k as u64, &events[k]);
+    }
+    Ok(())
+}
+
+// Whether a bank of this size and as many rows fit the plan and the events, and the sequences suffice.
+fn check_sizes(plan: &Plan, size: usize, events: usize, rows: usize) -> Result<(), Refusal>
+    ensures { λ r. ⌜ reply r ≡ playedAnswer (layout (now (plan .entry))) size events rows ⌝ }
+{
+    if size != plan.stages() || rows != events {
+        return Err(Refusal::SizeMismatch);
+    }
+    if events as u64 > LAST_START - plan.start() {
+        return Err(Refusal::SequencesExhausted);
     }
     Ok(())
 }

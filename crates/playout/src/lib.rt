@@ -1,5 +1,4 @@
-// A bank of stages, the plan by which they depend on one another, and the run of events through them, one after another.
-pub mod bank;
+// The plan by which stages depend on one another, and the run of events through a bank of them, one after another.
 pub mod in_order;
 pub mod plan;
 pub mod reach;

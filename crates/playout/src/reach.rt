@@ -14,7 +14,7 @@ pub fn names(mask: u8, j: usize) -> bool
 }
 
 // The reach of stage i, as a mask: every stage in its mask together with their reaches.
-pub fn reach(masks: &Masks, i: usize) -> u8
+pub(crate) fn reach(masks: &Masks, i: usize) -> u8
     ensures value { λ r. ⌜ r ≡ reachOf (now (masks .entry)) i ⌝ }
     ensures reaches { λ r. ⌜ (Ordered (now (masks .entry)) → Reaches (now (masks .entry)) i r) ⌝ }
 {

@@ -1,6 +1,4 @@
-// The stages that events pass through, each by its meaning.
-pub mod air;
-pub mod check;
+// What a stage is, and the stages for events of any kind.
 pub mod figures;
 pub mod journal;
 pub mod sieve;

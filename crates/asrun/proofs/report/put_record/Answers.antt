@@ -6,8 +6,8 @@ use lib.ListN.{length}
 use Rattle.events.specs.Refusals.{accepted}
 use Rattle.events.specs.Words.{cueWords}
 use Rattle.playout.specs.Plan.{layout}
-use Rattle.stages.specs.Air.{airFigures}
-use Rattle.stages.specs.Check.{checkFigures}
+use Rattle.cue_stages.specs.Air.{airFigures}
+use Rattle.cue_stages.specs.Check.{checkFigures}
 use Rattle.stages.specs.Journal.{journalFigures}
 use Rattle.std.proofs.shelf.Lists.{length-map}
 use Rattle.std.specs.Of.String.{string-bytes}

@@ -1,0 +1,12 @@
+use mathlib.Core.Path.{sym, _∙_}
+use native.Mathlib.Omega.{arith}
+use Rattle.cue_stages.specs.Air.{shownFigure}
+use Rattle.cue_stages.specs.declared.air.Shown.the-variants.{Black}
+use Rattle.cue_stages.proofs.Tables.{figure-at, figure-past}
+use Rattle.cue_stages.proofs.air.shown_figure.Needs as need
+
+pub returns-then-i-lt16 : need.returns-then-i-lt16
+returns-then-i-lt16 c = c .figure .ensures ∙ sym (figure-at shownFigure (c .args .channels .now) (c .args .i) Black)
+
+pub returns-else-i-lt16 : need.returns-else-i-lt16
+returns-else-i-lt16 c = figure-past shownFigure (c .args .channels .now) (c .args .i) (omega arith)

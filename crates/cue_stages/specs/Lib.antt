@@ -1,0 +1,3 @@
+pub mod Air
+pub mod Check
+pub mod Cues
