@@ -13,7 +13,7 @@ def cue(channel, action, item, frame):
     return struct.pack("<BBxxIQ", channel, action, item, frame)
 
 
-# An evening on two channels, with each fault that Check looks for.
+# An evening on three channels, with each fault that Check looks for.
 DAY = [
     cue(3, TAKE, 7, 100),
     cue(3, HOLD, 0, 90),  # before the last good frame of channel 3

@@ -3,7 +3,7 @@ use mathlib.Core.List.{List, [], _∷_, _++_, map}
 use mathlib.Core.Path.{_≡_}
 use Prim.Native.Nat.{ℕ, _*_, _/_, _%_, _<_}
 use lib.Chars.{codes}
-use lib.ListN.{getD, length, replicate}
+use lib.ListN.{getD, length}
 use Rattle.asrun.specs.declared.report.Fault.{Fault}
 use Rattle.asrun.specs.declared.report.Fault.the-variants.{CutShort, OutOfMemory}
 use Rattle.events.specs.Records.{cueAt}
@@ -12,9 +12,9 @@ use Rattle.events.specs.declared.cue.Cue.{Cue}
 use Rattle.bank.specs.Bank.{figuresOf}
 use Rattle.playout.specs.InOrder.{rowOf, stagesAfter}
 use Rattle.playout.specs.Plan.{Layout}
-use Rattle.cue_stages.specs.Air.{air, airFigures}
-use Rattle.cue_stages.specs.Check.{check, checkFigures}
-use Rattle.stages.specs.Journal.{journal}
+use Rattle.cue_stages.specs.Air.{air, airFigures, freshAir}
+use Rattle.cue_stages.specs.Check.{check, checkFigures, freshCheck}
+use Rattle.stages.specs.Journal.{freshJournal, journal, journalFigures}
 use Rattle.stages.specs.Meaning.{Meaning}
 use Rattle.stages.specs.Sieve.{sieved}
 use Rattle.std.specs.Iters.{counting}
@@ -35,7 +35,7 @@ abbrev pub dayLayout : Layout
 dayLayout = record { start = 0; stages = 3; masks = 0 ∷ 1 ∷ 0 ∷ 0 ∷ 0 ∷ 0 ∷ 0 ∷ 0 ∷ [] }
 
 abbrev pub dayBank : List Meaning
-dayBank = check (replicate 18 0) ∷ sieved 0 (air (replicate 17 0)) ∷ journal (replicate 2 0) ∷ []
+dayBank = check (checkFigures freshCheck) ∷ sieved 0 (air (airFigures freshAir)) ∷ journal (journalFigures freshJournal) ∷ []
 
 -- a line of numbers: one space between them, a line feed at its end
 abbrev pub line : List ℕ → List ℕ
@@ -69,8 +69,13 @@ recordOf cues =
     cueLines cues rows (length cues)
     ++ (stageLine 0 (figuresOf stages 0) ++ (stageLine 1 (figuresOf stages 1) ++ stageLine 2 (figuresOf stages 2)))
 
--- What is told of an input: its record, or that its last record is cut short. Want of memory tells nothing.
+-- a fault in words
+abbrev pub faultText : Fault → List ℕ
+faultText (CutShort whole rest) = codes "record " ++ (decimal whole ++ (codes " is cut short: " ++ (decimal rest ++ codes " of 16 bytes")))
+faultText OutOfMemory = codes "out of memory"
+
+-- What is told of an input: that its last record is cut short, or else its record, if memory suffices.
 abbrev pub Tells : List ℕ → Result (String Global) Fault → Type 0
 Tells input (Ok text) = (length input % 16 ≡ 0) × (string-bytes text ≡ recordOf (map cueWords (cuesIn input)))
 Tells input (Err (CutShort whole rest)) = (whole ≡ length input / 16) × (rest ≡ length input % 16) × (0 < rest)
-Tells input (Err OutOfMemory) = Unit {0}
+Tells input (Err OutOfMemory) = length input % 16 ≡ 0

@@ -2,13 +2,14 @@
 ghost use mathlib.Core.List.{_++_, map};
 ghost use mathlib.Core.Path.{_≡_};
 ghost use Prim.Native.Nat.{_^_, _≤_};
-ghost use lib.ListN.{length, replicate};
-ghost use Rattle.asrun.specs.AsRun.{cueLine, cueLines, cuesIn, figureFields, recordOf, stageLine, Tells};
+ghost use lib.ListN.{length};
+ghost use Rattle.asrun.specs.AsRun.{cueLine, cueLines, cuesIn, faultText, figureFields, recordOf, stageLine, Tells};
 ghost use Rattle.asrun.specs.declared.report.Fault.the-variants.{OutOfMemory};
 ghost use Rattle.events.specs.Words.{cueWords};
 ghost use Rattle.std.specs.Of.String.{string-bytes};
 ghost use Rattle.std.specs.Of.Vec.{vec-items};
 ghost use Rattle.std.specs.Vec.{made};
+ghost use Rattle.std.specs.declared.option.Option.the-variants.{Some};
 use bank::Last;
 use bank::LastBank;
 use bank::Then;
@@ -46,7 +47,7 @@ pub enum Fault {
     OutOfMemory,
 }
 
-pub impl From<AllocError> for Fault as FaultFromAlloc {
+impl From<AllocError> for Fault as FaultFromAlloc {
     ghost converts = { λ _ r. r ≡ OutOfMemory };
 
     fn from(_: AllocError) -> Fault {
@@ -55,7 +56,7 @@ pub impl From<AllocError> for Fault as FaultFromAlloc {
 }
 
 // Text runs into a `String` only for want of memory.
-pub impl From<fmt::Error> for Fault as FaultFromFmt {
+impl From<fmt::Error> for Fault as FaultFromFmt {
     ghost converts = { λ _ r. r ≡ OutOfMemory };
 
     fn from(_: fmt::Error) -> Fault {
@@ -64,11 +65,14 @@ pub impl From<fmt::Error> for Fault as FaultFromFmt {
 }
 
 pub impl fmt::Display for Fault as FaultDisplay {
+    ghost shown = { λ f. Some (faultText f) };
+
     fn fmt<W: fmt::Write>(&self, f: &mut fmt::Formatter<W>) -> fmt::Result {
         match self {
-            Fault::CutShort { whole, rest } => {
-                write!(f, "record {whole} is cut short: {rest} of {CUE_SIZE} bytes")
-            }
+            Fault::CutShort { whole, rest } => write!(
+                f,
+                "record {whole} is cut short: {rest} of 16 bytes"
+            ),
             Fault::OutOfMemory => write!(f, "out of memory"),
         }
     }
@@ -93,11 +97,11 @@ fn put_cue(out: &mut String, sequence: usize, cue: &Cue, row: &Marks) -> fmt::Re
 }
 
 // The figures, each after a space.
-fn put_figures<F: Figures>(out: &mut String, of: &F) -> fmt::Result
-    ensures { λ r. ⌜ made r (λ _. string-bytes (now (out .exit)) ≡ string-bytes (now (out .entry)) ++ figureFields (F·Figures .figures (now (of .entry)))) ⌝ }
+fn put_figures<F: Figures>(out: &mut String, reported: &F) -> fmt::Result
+    ensures { λ r. ⌜ made r (λ _. string-bytes (now (out .exit)) ≡ string-bytes (now (out .entry)) ++ figureFields (F·Figures .figures (now (reported .entry)))) ⌝ }
 {
-    for k in 0..of.count() {
-        let n = of.figure(k);
+    for k in 0..reported.count() {
+        let n = reported.figure(k);
         write!(out, " {n}")?;
     }
     Ok(())
@@ -130,10 +134,10 @@ fn read_cues(heap: Global, input: &[u8]) -> Result<Vec<Cue>, AllocError>
 {
     let mut cues = Vec::new(heap);
     for k in 0..input.len() / CUE_SIZE {
-        match cue_at(input, CUE_SIZE * k) {
-            Some(cue) => cues.push(cue)?,
-            None => unreachable(),
-        }
+        let Some(cue) = cue_at(input, CUE_SIZE * k) else {
+            unreachable()
+        };
+        cues.push(cue)?;
     }
     Ok(cues)
 }

@@ -2,15 +2,14 @@
 ghost use mathlib.Core.Path.{_≡_};
 ghost use mathlib.Core.List.{map};
 ghost use lib.ListN.{length, getD};
-ghost use Rattle.events.specs.Words.{cueWords};
 ghost use Rattle.cue_stages.specs.Air.{actionNamed, air, airFigures, freshAir, obeyed, settled, shownFigure};
+use crate::CHANNELS;
+use crate::LAST_CHANNEL;
 use events::cue::Cue;
 use events::cue::CueEvent;
 use stages::figures::Figures;
 use stages::stage::Marks;
 use stages::stage::Stage;
-
-const CHANNELS: u8 = 16;
 
 // What a channel shows: nothing, or an item that plays or is held.
 #[derive(Clone, Copy)]
@@ -75,7 +74,7 @@ impl Shown {
 #[derive(Clone, Copy)]
 pub struct Air {
     obeyed: u64,
-    channels: [Shown; 16],
+    channels: [Shown; CHANNELS],
 }
 
 impl Air {
@@ -84,24 +83,28 @@ impl Air {
     {
         Air {
             obeyed: 0,
-            channels: [Shown::Black; 16],
+            channels: [Shown::Black; CHANNELS],
         }
     }
 }
 
 // How many channels have a figure.
-fn shown_count(channels: &[Shown; 16]) -> usize
+fn shown_count(channels: &[Shown; CHANNELS]) -> usize
     ensures value { λ r. ⌜ r ≡ length (map shownFigure (now (channels .entry))) ⌝ }
     ensures sixteen { λ r. ⌜ r ≡ 16 ⌝ }
 {
-    16
+    channels.len()
 }
 
 // The figure of a channel, or 0 if there is no such channel.
-fn shown_figure(channels: &[Shown; 16], i: usize) -> u64
+fn shown_figure(channels: &[Shown; CHANNELS], i: usize) -> u64
     ensures { λ r. ⌜ r ≡ getD (map shownFigure (now (channels .entry))) i 0 ⌝ }
 {
-    if i < 16 { channels[i].figure() } else { 0 }
+    if i < CHANNELS {
+        channels[i].figure()
+    } else {
+        0
+    }
 }
 
 pub impl Figures for Air as AirFigures {
@@ -126,7 +129,7 @@ pub impl Stage<Cue> for Air as AirStage {
         let Some(action) = Action::named(cue.action) else {
             return 1;
         };
-        if cue.channel >= CHANNELS {
+        if cue.channel > LAST_CHANNEL {
             return 1;
         }
         let channel = &mut self.channels[cue.channel as usize];

@@ -4,6 +4,9 @@ ghost use mathlib.Core.List.{map};
 ghost use lib.ListN.{length, getD};
 ghost use Rattle.events.specs.Words.{cueWords};
 ghost use Rattle.cue_stages.specs.Check.{check, checkFigures, checkMark, freshCheck, lastFigure, verdictMark};
+use crate::CHANNELS;
+use crate::LAST_ACTION;
+use crate::LAST_CHANNEL;
 use events::cue::Cue;
 use events::cue::CueEvent;
 use stages::figures::Figures;
@@ -36,7 +39,7 @@ impl Verdict {
 pub struct Check {
     good: u64,
     bad: u64,
-    last: [Option<u32>; 16],
+    last: [Option<u32>; CHANNELS],
 }
 
 impl Check {
@@ -46,7 +49,7 @@ impl Check {
         Check {
             good: 0,
             bad: 0,
-            last: [None; 16],
+            last: [None; CHANNELS],
         }
     }
 
@@ -54,10 +57,10 @@ impl Check {
     fn judge(&self, cue: &Cue) -> Verdict
         ensures { λ r. ⌜ verdictMark r ≡ checkMark (checkFigures (now (self .entry))) (cueWords (now (cue .entry))) ⌝ }
     {
-        if cue.channel > 15 {
+        if cue.channel > LAST_CHANNEL {
             return Verdict::NoSuchChannel;
         }
-        if cue.action > 3 {
+        if cue.action > LAST_ACTION {
             return Verdict::NoSuchAction;
         }
         if cue.frame > LAST_FRAME {
@@ -78,18 +81,18 @@ impl Check {
 }
 
 // How many channels have a figure.
-fn last_count(last: &[Option<u32>; 16]) -> usize
+fn last_count(last: &[Option<u32>; CHANNELS]) -> usize
     ensures value { λ r. ⌜ r ≡ length (map lastFigure (now (last .entry))) ⌝ }
     ensures sixteen { λ r. ⌜ r ≡ 16 ⌝ }
 {
-    16
+    last.len()
 }
 
 // The last good frame of a channel plus 1, or 0 if there is none, or no such channel.
-fn last_figure(last: &[Option<u32>; 16], i: usize) -> u64
+fn last_figure(last: &[Option<u32>; CHANNELS], i: usize) -> u64
     ensures { λ r. ⌜ r ≡ getD (map lastFigure (now (last .entry))) i 0 ⌝ }
 {
-    if i >= 16 {
+    if i >= CHANNELS {
         return 0;
     }
     let last = last[i];

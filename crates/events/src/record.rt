@@ -3,7 +3,7 @@ ghost use mathlib.Core.Path.{_≡_};
 ghost use Rattle.events.specs.Records.{cueAt, u32At, u64At, within};
 use crate::cue::Cue;
 
-// The bytes of a cue record: channel, action, two that are ignored, item, frame.
+// How many bytes a cue record has: channel, action, two that are ignored, item, frame.
 pub const CUE_SIZE: usize = 16;
 
 // The 32-bit number at a place, if it lies within the bytes.

@@ -10,10 +10,9 @@ use lib.Dec.{eqb, ltb}
 use lib.ListN.{length, getD, set, replicate}
 use Rattle.events.specs.Refusals.{Reply, accepted, left, refused, unless}
 use Rattle.bank.specs.Bank.{handledBy, markBy}
-use Rattle.playout.specs.InOrder.{Pass, Played, handling, passed, played, playedAnswer, rowOf, shown, stagesAfter}
+use Rattle.playout.specs.InOrder.{Pass, Played, given, handling, passed, played, playedAnswer, rowOf, stagesAfter}
 use Rattle.playout.specs.Plan.{Layout}
-use Rattle.playout.specs.Reach.{reachOf}
-use Rattle.stages.specs.Meaning.{Given, Meaning}
+use Rattle.stages.specs.Meaning.{Meaning}
 use Rattle.std.proofs.shelf.Counted.{fill-by-all}
 use Rattle.std.proofs.shelf.Tests.{ltb-false}
 use Rattle.std.proofs.shelf.Ways.{tells}
@@ -35,14 +34,12 @@ pub after-more : (l : Layout) (bank : List Meaning) (words : ℕ → List ℕ) (
 unfolding stagesAfter
 after-more l bank words k = sym (ap (stagesAfter l bank words) (add-one k))
 
--- what a call of the bank does, shown the marks that it is to be shown
-pub handled : (masks : List ℕ) (sequence : ℕ) (words : List ℕ) (i : ℕ) (p : Pass) (marks : List ℕ) (reach : ℕ) (after : List Meaning) (mark : ℕ) → reach ≡ reachOf masks i → marks ≡ shown reach (p .row) → after ≡ handledBy (p .stages) i (record { sequence = sequence; words = words; marks = marks }) → mark ≡ markBy (p .stages) i (record { sequence = sequence; words = words; marks = marks }) → record { stages = after; row = set (p .row) i mark } ≡ handling masks sequence words i p
-handled masks sequence words i p marks reach after mark reached showed grew marked =
-    let g : List ℕ → Given = λ ms. record { sequence = sequence; words = words; marks = ms } in
-    let step : List ℕ → Pass = λ ms. record { stages = handledBy (p .stages) i (g ms); row = set (p .row) i (markBy (p .stages) i (g ms)) } in
+-- one stage more has handled the event
+pub handled : (masks : List ℕ) (sequence : ℕ) (words : List ℕ) (i : ℕ) (p : Pass) (after : List Meaning) (mark : ℕ) → after ≡ handledBy (p .stages) i (given masks sequence words i (p .row)) → mark ≡ markBy (p .stages) i (given masks sequence words i (p .row)) → record { stages = after; row = set (p .row) i mark } ≡ handling masks sequence words i p
+handled masks sequence words i p after mark grew marked =
     let one : List Meaning → Pass = λ st. record { stages = st; row = set (p .row) i mark } in
-    let two : ℕ → Pass = λ m. record { stages = handledBy (p .stages) i (g marks); row = set (p .row) i m } in
-    ap one grew ∙ ap two marked ∙ ap step (showed ∙ ap (λ r. shown r (p .row)) reached)
+    let two : ℕ → Pass = λ m. record { stages = handledBy (p .stages) i (given masks sequence words i (p .row)); row = set (p .row) i m } in
+    ap one grew ∙ ap two marked
 
 -- what the call leaves, by its answer
 by-answer : Layout → List Meaning → List (List ℕ) → List (List ℕ) → Reply (Unit {0}) → Played

@@ -1,6 +1,6 @@
 -- The one-after-another run: events pass through all stages, one event after another, each stage in number order.
 -- Assumes nothing.
-use mathlib.Core.Bool.{Bool, cond, not, _||_}
+use mathlib.Core.Bool.{cond, not, _||_}
 use mathlib.Core.List.{List, [], _∷_, map}
 use Prim.Native.Nat.{ℕ, zero, suc, _+_, _^_}
 use lib.Dec.{eqb, ltb}
@@ -22,14 +22,14 @@ pub record Pass : Type 0 where
   pub row : List ℕ
 
 -- what stage i is given
-abbrev pub given : List ℕ → ℕ → List ℕ → ℕ → Pass → Given
-given masks sequence words i p = record { sequence = sequence; words = words; marks = shown (reachOf masks i) (p .row) }
+abbrev pub given : List ℕ → ℕ → List ℕ → ℕ → List ℕ → Given
+given masks sequence words i row = record { sequence = sequence; words = words; marks = shown (reachOf masks i) row }
 
 -- stage i handles the event, and its mark enters the row
 abbrev pub handling : List ℕ → ℕ → List ℕ → ℕ → Pass → Pass
 handling masks sequence words i p = record {
-  stages = handledBy (p .stages) i (given masks sequence words i p);
-  row = set (p .row) i (markBy (p .stages) i (given masks sequence words i p));
+  stages = handledBy (p .stages) i (given masks sequence words i (p .row));
+  row = set (p .row) i (markBy (p .stages) i (given masks sequence words i (p .row)));
 }
 
 -- an event has passed the first n stages: the row begins as 0

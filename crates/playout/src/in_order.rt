@@ -5,11 +5,12 @@ ghost use mathlib.Core.List.{map};
 ghost use Prim.Native.Nat.{_<_};
 ghost use lib.ListN.{getD};
 ghost use Rattle.events.specs.Refusals.{reply};
-ghost use Rattle.playout.specs.InOrder.{passed, played, playedAnswer, shown};
+ghost use Rattle.bank.specs.Bank.{handledBy, markBy};
+ghost use Rattle.playout.specs.InOrder.{given, passed, played, playedAnswer, shown};
 ghost use Rattle.playout.specs.Plan.{layout};
 ghost use Rattle.playout.specs.Reach.{names};
 use crate::plan::Plan;
-use crate::plan::making::LAST_START;
+use crate::plan::making::SEQUENCE_END;
 use crate::reach::names;
 use bank::Bank;
 use events::event::Event;
@@ -39,7 +40,7 @@ fn check_sizes(plan: &Plan, size: usize, events: usize, rows: usize) -> Result<(
     if size != plan.stages() || rows != events {
         return Err(Refusal::SizeMismatch);
     }
-    if events as u64 > LAST_START - plan.start() {
+    if events as u64 > SEQUENCE_END - plan.start() {
         return Err(Refusal::SequencesExhausted);
     }
     Ok(())
@@ -51,10 +52,25 @@ fn pass<E: Event, B: Bank<E>>(plan: &Plan, bank: &mut B, sequence: u64, event: &
 {
     let mut row = [0; 8];
     for i in 0..plan.stages() {
-        let marks = show(plan.reach(i), &row);
-        row[i] = bank.handle(i, sequence, event, &marks);
+        row[i] = pass_stage(plan, bank, i, sequence, event, &row);
     }
     row
+}
+
+// Has stage i handle the event, shown the row's marks in its reach, and gives its mark.
+fn pass_stage<E: Event, B: Bank<E>>(
+    plan: &Plan,
+    bank: &mut B,
+    i: usize,
+    sequence: u64,
+    event: &E,
+    row: &Marks,
+) -> u32
+    ensures grows { λ _. ⌜ B·Bank .stages (now (bank .exit)) ≡ handledBy (B·Bank .stages (now (bank .entry))) i (given (layout (now (plan .entry)) .masks) sequence (E·Event .words (now (event .entry))) i (now (row .entry))) ⌝ }
+    ensures mark { λ r. ⌜ r ≡ markBy (B·Bank .stages (now (bank .entry))) i (given (layout (now (plan .entry)) .masks) sequence (E·Event .words (now (event .entry))) i (now (row .entry))) ⌝ }
+{
+    let marks = show(plan.reach(i), row);
+    bank.handle(i, sequence, event, &marks)
 }
 
 // The marks of a row that a stage of this reach is shown, and 0 elsewhere.

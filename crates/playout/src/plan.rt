@@ -1,5 +1,5 @@
 // A plan: where sequences start, and how the stages depend on one another.
-ghost use mathlib.Core.Bool.{true};
+// The type stands alone in this file, so that definitions may name it; its methods are in `making`.
 ghost use mathlib.Core.Path.{_≡_};
 ghost use Prim.Native.Nat.{_^_, _≤_};
 ghost use lib.ListN.{length};

@@ -12,6 +12,9 @@ pub struct Journal {
     digest: u32,
 }
 
+// Codes are below this, 2^32.
+const CODES: u64 = 4_294_967_296;
+
 impl Journal {
     // A journal that has handled nothing.
     pub fn new() -> Journal
@@ -28,7 +31,7 @@ impl Journal {
 fn fold(code: u32, word: u64) -> u32
     ensures { λ r. ⌜ r ≡ folded code word ⌝ }
 {
-    ((31 * u64::from(code) + word % 4_294_967_296) % 4_294_967_296) as u32
+    ((31 * u64::from(code) + word % CODES) % CODES) as u32
 }
 
 pub impl Figures for Journal as JournalFigures {

@@ -1,5 +1,4 @@
 // A sieve over any stage, itself a stage: it lets through only what another stage marked 0.
-ghost use mathlib.Core.Path.{_≡_};
 ghost use Rattle.stages.specs.Sieve.{sieved};
 use crate::figures::Figures;
 use crate::stage::Marks;

@@ -10,7 +10,8 @@ use events::refusal::Refusal;
 
 pub const MOST_STAGES: usize = 8;
 
-pub const LAST_START: u64 = 1 << 62;
+// Sequences lie below this; a start may be this number itself, and then there is none.
+pub const SEQUENCE_END: u64 = 1 << 62;
 
 impl Plan {
     // A plan of as many stages as there are masks, each naming only lower-numbered stages.
@@ -21,7 +22,7 @@ impl Plan {
         if stages == 0 || stages > MOST_STAGES {
             return Err(Refusal::StageCount);
         }
-        if start > LAST_START {
+        if start > SEQUENCE_END {
             return Err(Refusal::Start);
         }
         let mut all: Masks = [0; 8];

@@ -11,7 +11,7 @@ use Rattle.asrun.proofs.report.put_figures.Needs as need
 
 pub loop-k-again : need.loop-k-again
 loop-k-again g c =
-    let figures = g .F·Figures .figures (c .args .of .now) in
+    let figures = g .F·Figures .figures (c .args .reported .now) in
     let k = c .loop-k .k in
     let before = string-bytes (c .args .out .now) in
     let next : take k figures ++ (c .figure-n .result ∷ []) ≡ take (k + 1) figures = ap (λ n. take k figures ++ (n ∷ [])) (c .figure-n .ensures) ∙ sym (take-more figures k 0 (omega arith)) in
@@ -22,5 +22,5 @@ loop-k-again g c =
 
 pub returns : need.returns
 returns g c =
-    let figures = g .F·Figures .figures (c .args .of .now) in
+    let figures = g .F·Figures .figures (c .args .reported .now) in
     c .loop-k .inv ∙ ap (λ fs. string-bytes (c .args .out .now) ++ figureFields fs) (take-all (c .loop-k .k) figures (omega arith))

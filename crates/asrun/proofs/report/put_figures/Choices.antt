@@ -7,4 +7,4 @@ use Rattle.asrun.proofs.report.put_figures.Given as given
 
 -- The first k figures are written.
 abbrev pub Inv-loop-k : given.InvT-loop-k
-Inv-loop-k g l = string-bytes (l .out) ≡ string-bytes (l .entry .out) ++ figureFields (take (l .k) (g .F·Figures .figures (l .of)))
+Inv-loop-k g l = string-bytes (l .out) ≡ string-bytes (l .entry .out) ++ figureFields (take (l .k) (g .F·Figures .figures (l .reported)))

@@ -5,8 +5,8 @@ use Rattle.cue_stages.specs.declared.air.Shown.the-variants.{Black}
 use Rattle.cue_stages.proofs.Tables.{figure-at, figure-past}
 use Rattle.cue_stages.proofs.air.shown_figure.Needs as need
 
-pub returns-then-i-lt16 : need.returns-then-i-lt16
-returns-then-i-lt16 c = c .figure .ensures ∙ sym (figure-at shownFigure (c .args .channels .now) (c .args .i) Black)
+pub returns-then-i-lt-CHANNELS : need.returns-then-i-lt-CHANNELS
+returns-then-i-lt-CHANNELS c = c .figure .ensures ∙ sym (figure-at shownFigure (c .args .channels .now) (c .args .i) Black)
 
-pub returns-else-i-lt16 : need.returns-else-i-lt16
-returns-else-i-lt16 c = figure-past shownFigure (c .args .channels .now) (c .args .i) (omega arith)
+pub returns-else-i-lt-CHANNELS : need.returns-else-i-lt-CHANNELS
+returns-else-i-lt-CHANNELS c = figure-past shownFigure (c .args .channels .now) (c .args .i) (omega arith)

@@ -6,8 +6,8 @@ use Rattle.cue_stages.specs.Check.{lastFigure}
 use Rattle.cue_stages.proofs.Tables.{figure-at, figure-past}
 use Rattle.cue_stages.proofs.check.last_figure.Needs as need
 
-pub returns-then-i-ge16 : need.returns-then-i-ge16
-returns-then-i-ge16 c = figure-past lastFigure (c .args .last .now) (c .args .i) (omega arith)
+pub returns-then-i-ge-CHANNELS : need.returns-then-i-ge-CHANNELS
+returns-then-i-ge-CHANNELS c = figure-past lastFigure (c .args .last .now) (c .args .i) (omega arith)
 
 pub returns-in-Some : need.returns-in-Some
 returns-in-Some c =

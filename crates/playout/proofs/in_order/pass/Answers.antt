@@ -13,7 +13,7 @@ loop-i-again g c =
     let masks = c .args .plan .now .masks in
     let words = g .E·Event .words (c .args .event .now) in
     let p : Pass = record { stages = g .B·Bank .stages (c .loop-i .bank); row = c .loop-i .row } in
-    handled masks (c .args .sequence) words (c .loop-i .i) p _ (c .reach .result) _ _ (c .reach .ensures .value) (c .show-marks .ensures) (c .handle .ensures .grows) (c .handle .ensures .mark)
+    handled masks (c .args .sequence) words (c .loop-i .i) p _ _ (c .pass-stage .ensures .grows) (c .pass-stage .ensures .mark)
     ∙ ap (handling masks (c .args .sequence) words (c .loop-i .i)) (c .loop-i .inv)
     ∙ passed-more masks (c .args .sequence) words (g .B·Bank .stages (c .args .bank .now)) (c .loop-i .i)
 
