@@ -6,7 +6,7 @@ ghost use lib.ListN.{length, getD};
 ghost use Rattle.stages.specs.Meaning.{Meaning};
 ghost use Rattle.bank.specs.Bank.{figuresOf, handledBy, markBy};
 use events::event::Event;
-use stages::stage::Marks;
+use stages::marks::Marks;
 use stages::stage::Stage;
 
 pub trait Bank<E: Event> {

@@ -8,7 +8,7 @@ use crate::LAST_CHANNEL;
 use events::cue::Cue;
 use events::cue::CueEvent;
 use stages::figures::Figures;
-use stages::stage::Marks;
+use stages::marks::Marks;
 use stages::stage::Stage;
 
 // What a channel shows: nothing, or an item that plays or is held.

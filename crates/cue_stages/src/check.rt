@@ -10,7 +10,7 @@ use crate::LAST_CHANNEL;
 use events::cue::Cue;
 use events::cue::CueEvent;
 use stages::figures::Figures;
-use stages::stage::Marks;
+use stages::marks::Marks;
 use stages::stage::Stage;
 
 const LAST_FRAME: u64 = 2_159_999;

@@ -1,3 +1,4 @@
+pub mod Capacity
 pub mod Records
 pub mod Refusals
 pub mod Words

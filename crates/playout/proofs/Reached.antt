@@ -8,8 +8,9 @@ use native.Mathlib.Omega.{arith}
 use lib.Bits.{bitOr}
 use lib.ListN.{getD}
 use Rattle.std.proofs.shelf.Tests.{cases-lt, cases-order, true≢false}
-use Rattle.playout.specs.Reach.{names, maskOf, Reach, direct, through, Ordered, Reaches, reachBelow, reachOf}
-use Rattle.playout.proofs.Masks.{names-none, names-or, names-own, names-one}
+use Rattle.stages.specs.Marks.{names}
+use Rattle.playout.specs.Reach.{maskOf, Reach, direct, through, Ordered, Reaches, reachBelow, reachOf}
+use Rattle.stages.proofs.Masks.{names-none, names-or, names-own, names-one}
 
 -- one stage more
 pub below-more : (masks : List ℕ) (mask n : ℕ) → 0 < n → reachBelow masks mask n ≡ cond (names mask (n - 1)) (bitOr (bitOr (reachBelow masks mask (n - 1)) (2 ^ (n - 1))) (reachBelow masks (maskOf masks (n - 1)) (n - 1))) (reachBelow masks mask (n - 1))

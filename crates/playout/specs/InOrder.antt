@@ -1,6 +1,6 @@
 -- The one-after-another run: events pass through all stages, one event after another, each stage in number order.
 -- Assumes nothing.
-use mathlib.Core.Bool.{cond, not, _||_}
+use mathlib.Core.Bool.{not, _||_}
 use mathlib.Core.List.{List, [], _∷_, map}
 use Prim.Native.Nat.{ℕ, zero, suc, _+_, _^_}
 use lib.Dec.{eqb, ltb}
@@ -8,13 +8,10 @@ use lib.ListN.{getD, length, replicate, set}
 use Rattle.events.specs.Refusals.{Reply, accepted, unless, left}
 use Rattle.bank.specs.Bank.{handledBy, markBy}
 use Rattle.playout.specs.Plan.{Layout}
-use Rattle.playout.specs.Reach.{names, reachOf}
+use Rattle.playout.specs.Reach.{reachOf}
+use Rattle.stages.specs.Marks.{shown}
 use Rattle.stages.specs.Meaning.{Given, Meaning}
 use Rattle.std.specs.Iters.{counting}
-
--- a row of marks as a stage is shown it: those of its reach, and 0 elsewhere
-abbrev pub shown : ℕ → List ℕ → List ℕ
-shown reach row = map (λ j. cond (names reach j) (getD row j 0) 0) (counting 0 8)
 
 -- the stages and the row of marks while an event passes through
 pub record Pass : Type 0 where

@@ -1,15 +1,11 @@
 -- Masks, and the reach of a stage: every stage in its mask together with their reaches. Assumes nothing.
-use mathlib.Core.Bool.{Bool, true, cond}
+use mathlib.Core.Bool.{true, cond}
 use mathlib.Core.List.{List}
 use mathlib.Core.Path.{_≡_}
-use Prim.Native.Nat.{ℕ, zero, suc, _/_, _%_, _^_, _<_}
+use Prim.Native.Nat.{ℕ, zero, suc, _^_, _<_}
 use lib.Bits.{bitOr}
-use lib.Dec.{eqb}
 use lib.ListN.{getD}
-
--- bit j of a mask names stage j
-abbrev pub names : ℕ → ℕ → Bool
-names mask j = eqb (mask / 2 ^ j % 2) 1
+use Rattle.stages.specs.Marks.{names}
 
 abbrev pub maskOf : List ℕ → ℕ → ℕ
 maskOf masks i = getD masks i 0

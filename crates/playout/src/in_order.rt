@@ -1,21 +1,17 @@
 // The one-after-another run: what any room is compared with.
 ghost use mathlib.Core.Path.{_≡_};
-ghost use mathlib.Core.Bool.{cond};
 ghost use mathlib.Core.List.{map};
-ghost use Prim.Native.Nat.{_<_};
-ghost use lib.ListN.{getD};
 ghost use Rattle.events.specs.Refusals.{reply};
 ghost use Rattle.bank.specs.Bank.{handledBy, markBy};
-ghost use Rattle.playout.specs.InOrder.{given, passed, played, playedAnswer, shown};
+ghost use Rattle.playout.specs.InOrder.{given, passed, played, playedAnswer};
 ghost use Rattle.playout.specs.Plan.{layout};
-ghost use Rattle.playout.specs.Reach.{names};
 use crate::plan::Plan;
 use crate::plan::making::SEQUENCE_END;
-use crate::reach::names;
 use bank::Bank;
 use events::event::Event;
 use events::refusal::Refusal;
-use stages::stage::Marks;
+use stages::marks::Marks;
+use stages::marks::show;
 
 // Plays the events from the plan's start on, one after another, and writes the marks that each one got into its row.
 pub fn play_in_order<E: Event, B: Bank<E>>(
@@ -71,27 +67,4 @@ fn pass_stage<E: Event, B: Bank<E>>(
 {
     let marks = show(plan.reach(i), row);
     bank.handle(i, sequence, event, &marks)
-}
-
-// The marks of a row that a stage of this reach is shown, and 0 elsewhere.
-pub fn show(reach: u8, row: &Marks) -> Marks
-    ensures { λ r. ⌜ r ≡ shown reach (now (row .entry)) ⌝ }
-{
-    [
-        shown_mark(reach, row, 0),
-        shown_mark(reach, row, 1),
-        shown_mark(reach, row, 2),
-        shown_mark(reach, row, 3),
-        shown_mark(reach, row, 4),
-        shown_mark(reach, row, 5),
-        shown_mark(reach, row, 6),
-        shown_mark(reach, row, 7),
-    ]
-}
-
-fn shown_mark(reach: u8, row: &Marks, j: usize) -> u32
-    requires { ⌜ j < 8 ⌝ }
-    ensures { λ r. ⌜ r ≡ cond (names reach j) (getD (now (row .entry)) j 0) 0 ⌝ }
-{
-    if names(reach, j) { row[j] } else { 0 }
 }

@@ -1,17 +1,11 @@
 // Which stages stand upstream of which: masks, one bit a stage, and what they reach.
 ghost use mathlib.Core.Path.{_≡_};
 ghost use Prim.Native.Nat.{_≤_};
-ghost use Rattle.playout.specs.Reach.{names, reachBelow, reachOf, Ordered, Reaches};
+ghost use Rattle.playout.specs.Reach.{reachBelow, reachOf, Ordered, Reaches};
+use stages::marks::names;
 
 // For each of eight stages the stages directly upstream: bit j names stage j.
 pub type Masks = [u8; 8];
-
-// Whether a mask names stage j.
-pub fn names(mask: u8, j: usize) -> bool
-    ensures { λ r. ⌜ r ≡ names mask j ⌝ }
-{
-    j < 8 && (mask >> j) % 2 == 1
-}
 
 // The reach of stage i, as a mask: every stage in its mask together with their reaches.
 pub(crate) fn reach(masks: &Masks, i: usize) -> u8

@@ -1,3 +1,4 @@
 pub mod Journal
+pub mod Marks
 pub mod Meaning
 pub mod Sieve

@@ -2,7 +2,7 @@
 ghost use mathlib.Core.Path.{_≡_};
 ghost use Rattle.stages.specs.Journal.{folded, freshJournal, journal, journalFigures};
 use crate::figures::Figures;
-use crate::stage::Marks;
+use crate::marks::Marks;
 use crate::stage::Stage;
 use events::event::Event;
 

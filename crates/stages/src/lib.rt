@@ -1,5 +1,6 @@
 // What a stage is, and the stages for events of any kind.
 pub mod figures;
 pub mod journal;
+pub mod marks;
 pub mod sieve;
 pub mod stage;

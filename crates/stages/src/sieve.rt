@@ -1,7 +1,7 @@
 // A sieve over any stage, itself a stage: it lets through only what another stage marked 0.
 ghost use Rattle.stages.specs.Sieve.{sieved};
 use crate::figures::Figures;
-use crate::stage::Marks;
+use crate::marks::Marks;
 use crate::stage::Stage;
 use events::event::Event;
 

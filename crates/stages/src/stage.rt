@@ -2,10 +2,8 @@
 ghost use mathlib.Core.Path.{_≡_};
 ghost use Rattle.stages.specs.Meaning.{Meaning, after, markOf};
 use crate::figures::Figures;
+use crate::marks::Marks;
 use events::event::Event;
-
-// The marks of one slot: mark i is what stage i gave.
-pub type Marks = [u32; 8];
 
 pub trait Stage<E: Event>: Figures {
     ghost means: { Self → Meaning };

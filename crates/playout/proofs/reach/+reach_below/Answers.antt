@@ -4,7 +4,8 @@ use Prim.Native.Nat.{_-_, _*_, _%_, _^_}
 use native.Mathlib.Omega.{arith}
 use lib.Bits.{bitOr}
 use Rattle.std.proofs.shelf.Bits.{one-shl}
-use Rattle.playout.specs.Reach.{names, maskOf, reachBelow}
+use Rattle.stages.specs.Marks.{names}
+use Rattle.playout.specs.Reach.{maskOf, reachBelow}
 use Rattle.playout.proofs.Reached.{below-more}
 use Rattle.playout.proofs.reach.+reach_below.Needs as need
 
