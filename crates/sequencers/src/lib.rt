@@ -1,0 +1,3 @@
+// Sequencers: who may write where, and what may be read.
+pub mod sequencer;
+pub mod single;
