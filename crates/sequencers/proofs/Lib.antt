@@ -1,2 +1,4 @@
+pub mod Multis
 pub mod Sets
 pub mod Singles
+pub mod Windows

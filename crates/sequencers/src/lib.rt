@@ -1,3 +1,4 @@
 // Sequencers: who may write where, and what may be read.
+pub mod multi;
 pub mod sequencer;
 pub mod single;
