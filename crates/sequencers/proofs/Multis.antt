@@ -22,6 +22,7 @@ open-window slots start next rounds s e = (low (cases-lt s (oldest slots start n
     low : (s < oldest slots start next) ⊎ (oldest slots start next ≤ s) → oldest slots start next ≤ s
     low (inl below) = absurd (true≢false (sym e ∙ open-below slots start next rounds s below))
     low (inr h) = h
+
     high : (s < next) ⊎ (next ≤ s) → s < next
     high (inl h) = h
     high (inr past) = absurd (true≢false (sym e ∙ open-past slots start next rounds s past))

@@ -94,8 +94,8 @@ rounds-claimed slots rounds lo (suc n) next some table end each i h =
     go true e before =
         let same : i ≡ (lo + n) % slots = eqb-true i ((lo + n) % slots) e in
         let value : getD (set (roundsAfter slots rounds lo n) ((lo + n) % slots) (roundOf slots (lo + n))) i 0 ≡ roundOf slots (lo + n) =
-            ap (λ j. getD (set (roundsAfter slots rounds lo n) ((lo + n) % slots) (roundOf slots (lo + n))) j 0) same
-            ∙ getD-set-same (roundsAfter slots rounds lo n) ((lo + n) % slots) (roundOf slots (lo + n)) 0 (omega (arith, after-length slots rounds lo n, mod-lt (lo + n) some)) in
+        ap (λ j. getD (set (roundsAfter slots rounds lo n) ((lo + n) % slots) (roundOf slots (lo + n))) j 0) same
+        ∙ getD-set-same (roundsAfter slots rounds lo n) ((lo + n) % slots) (roundOf slots (lo + n)) 0 (omega (arith, after-length slots rounds lo n, mod-lt (lo + n) some)) in
         let sum : roundOf slots (lo + n) * slots + (lo + n) % slots ≡ lo + n + slots = omega (arith, div-add-mod (lo + n) slots) in
         let whole : getD (set (roundsAfter slots rounds lo n) ((lo + n) % slots) (roundOf slots (lo + n))) i 0 * slots ≡ roundOf slots (lo + n) * slots = ap (λ r. r * slots) value in
         omega arith
@@ -125,6 +125,7 @@ open-published slots start next lo hi rounds some table low order high = fun-ext
   where
     keep : (s : ℕ) → getD (roundsAfter slots rounds lo (hi - lo)) (s % slots) 0 ≡ getD rounds (s % slots) 0 → between lo hi s ≡ false → openBy slots start next (roundsAfter slots rounds lo (hi - lo)) s ≡ (openBy slots start next rounds s && not (between lo hi s))
     keep s same out = ap (λ r. between (oldest slots start next) next s && not (eqb r (roundOf slots s))) same ∙ (let b : not (between lo hi s) ≡ true = ap not out in sym (ap (λ b. openBy slots start next rounds s && b) b ∙ and-true (openBy slots start next rounds s)))
+
     go : (s : ℕ) → (s < oldest slots start next) ⊎ (oldest slots start next ≤ s) → (s < next) ⊎ (next ≤ s) → (s < lo) ⊎ (lo ≤ s) → (s < hi) ⊎ (hi ≤ s) → openBy slots start next (roundsAfter slots rounds lo (hi - lo)) s ≡ (openBy slots start next rounds s && not (between lo hi s))
     go s (inl below) b c d = grind (arith, tells)
     go s (inr within) (inr past) c d = grind (arith, tells)

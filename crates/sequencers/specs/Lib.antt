@@ -1,2 +1,4 @@
+pub mod Laws
 pub mod Rounds
+pub mod Runs
 pub mod Sequencer

@@ -49,9 +49,9 @@ pub record Left : Type 0 where
 abbrev pub claimAnswer : Sequencing → ℕ → ℕ → Reply ℕ
 claimAnswer q n gate =
     unless ((eqb n 0 || ltb (q .slots) n, 17)
-      ∷ (ltb (2 ^ 62) (q .next + n), 18)
-      ∷ (ltb (gate + q .slots) (q .next + n) || someBelow (q .isOpen) (q .next + n - q .slots), 19)
-      ∷ [])
+    ∷ (ltb (2 ^ 62) (q .next + n), 18)
+    ∷ (ltb (gate + q .slots) (q .next + n) || someBelow (q .isOpen) (q .next + n - q .slots), 19)
+    ∷ [])
     (accepted (q .next))
 
 abbrev pub grown : Sequencing → ℕ → Sequencing

@@ -1,4 +1,5 @@
 // Sequencers: who may write where, and what may be read.
 pub mod multi;
+pub mod run;
 pub mod sequencer;
 pub mod single;

@@ -16,14 +16,25 @@ use Rattle.sequencers.proofs.multi.MultiSequencer.fresh.Needs as need
 pub ghost-result : need.ghost-result
 ghost-result c =
     let fits : isCapacity (c .args .capacity) ≡ true = sym (c .is-capacity .ensures) ∙ c .if-not-is-capacity .left in
-    let most = capacity-most (c .args .capacity) fits in
-    (fits,
-      (capacity-some (c .args .capacity) fits,
-        (most,
-          (omega arith,
-            (omega arith,
-              (ap length (c .no-rounds-rounds .ensures) ∙ length-replicate {A = ℕ} 256 0,
-                (λ i h. let none = ap (λ r. getD r i 0 * c .args .capacity) (c .no-rounds-rounds .ensures) ∙ ap (λ n. n * c .args .capacity) (getD-replicate {A = ℕ} 256 i 0 0 (omega arith)) in omega (arith, none), tt)))))))
+    let most = capacity-most (c .args .capacity) fits in (
+      fits,
+      (
+        capacity-some (c .args .capacity) fits,
+        (
+          most,
+          (
+            omega arith,
+            (
+              omega arith,
+              (
+                ap length (c .no-rounds-rounds .ensures) ∙ length-replicate {A = ℕ} 256 0,
+                (λ i h. let none = ap (λ r. getD r i 0 * c .args .capacity) (c .no-rounds-rounds .ensures) ∙ ap (λ n. n * c .args .capacity) (getD-replicate {A = ℕ} 256 i 0 0 (omega arith)) in omega (arith, none), tt),
+              ),
+            ),
+          ),
+        ),
+      ),
+    )
 
 pub returns : need.returns
 returns c =

@@ -22,14 +22,25 @@ ghost-self c =
     let m = c .args .self .now in
     let n = c .args .hi - c .args .lo in
     let window = publish-window (m .slots) (m .start) (m .next) (m .rounds) (c .args .lo) (c .args .hi) (c .if-not-all-open .ensures tt) in
-    let each = rounds-claimed (m .slots) (m .rounds) (c .args .lo) n (m .next) (m .some) (omega (arith, m .most, m .table)) (omega arith) (m .rounded) in
-    (m .capacity,
-      (m .some,
-        (m .most,
-          (m .begun,
-            (m .bounded,
-              (ap length (c .publish-rounds .ensures) ∙ after-length (m .slots) (m .rounds) (c .args .lo) n ∙ m .table,
-                (subst (λ (r : List ℕ). (i : ℕ) → i < m .slots → getD r i 0 * m .slots + i < m .next + m .slots) (sym (c .publish-rounds .ensures)) each, tt)))))))
+    let each = rounds-claimed (m .slots) (m .rounds) (c .args .lo) n (m .next) (m .some) (omega (arith, m .most, m .table)) (omega arith) (m .rounded) in (
+      m .capacity,
+      (
+        m .some,
+        (
+          m .most,
+          (
+            m .begun,
+            (
+              m .bounded,
+              (
+                ap length (c .publish-rounds .ensures) ∙ after-length (m .slots) (m .rounds) (c .args .lo) n ∙ m .table,
+                (subst (λ (r : List ℕ). (i : ℕ) → i < m .slots → getD r i 0 * m .slots + i < m .next + m .slots) (sym (c .publish-rounds .ensures)) each, tt),
+              ),
+            ),
+          ),
+        ),
+      ),
+    )
 
 pub returns : need.returns
 returns c =
