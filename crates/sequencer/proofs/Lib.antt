@@ -1,0 +1,3 @@
+pub mod OpenSets
+pub mod Sets
+pub mod Stepping

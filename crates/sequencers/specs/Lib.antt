@@ -1,4 +1,0 @@
-pub mod Laws
-pub mod Rounds
-pub mod Runs
-pub mod Sequencer
