@@ -7,9 +7,9 @@ ghost use lib.ListN.{getD, length, replicate};
 ghost use Rattle.events.specs.Capacity.{isCapacity};
 ghost use Rattle.multi.specs.Rounds.{oldest, openBy, roundsAfter};
 ghost use Rattle.sequencer.specs.Sequencer.{allFrom, someBelow};
-use events::capacity::is_capacity;
+use events::limits::SEQUENCE_END;
+use events::limits::is_capacity;
 use events::refusal::Refusal;
-use sequencer::SEQUENCE_END;
 use sequencer::Sequencer;
 
 // For each slot the round that was published last, 0 at first; the round of s is s div N, plus 1.
@@ -133,7 +133,7 @@ pub impl Sequencer for Multi as MultiSequencer {
     }
 
     fn next(&self) -> u64 {
-        self.next
+        self.next // the first unclaimed
     }
 
     fn claim(&mut self, n: u64, gate: u64) -> Result<u64, Refusal> {

@@ -7,8 +7,8 @@ ghost use Rattle.events.specs.Refusals.{reply};
 ghost use Rattle.ring.specs.Ring.{checked, eventAt, madeEvents, madeMarks, markAt, marked, place, rowAt, written};
 ghost use Rattle.stages.specs.Marks.{shown};
 ghost use Rattle.std.specs.Options.{mapped};
-use events::capacity::is_capacity;
 use events::event::Event;
+use events::limits::is_capacity;
 use events::refusal::Refusal;
 use stages::marks::Marks;
 use stages::marks::show;
@@ -108,7 +108,7 @@ impl<'a, E: Event> Ring<'a, E> {
         ensures same_marks { λ _. ⌜ name (now (self .exit) .marks) ≡ name (now (self .entry) .marks) ⌝ }
     {
         let slots = self.events.len();
-        if i > 7 || slots == 0 {
+        if slots == 0 || i > 7 {
             return;
         }
         let at = place(slots, s, i);
@@ -152,10 +152,10 @@ fn write_slot<T: Copy>(slots: &mut [T], k: usize, value: T)
 }
 
 // Writes a value into every element.
-fn fill<T: Copy>(slots: &mut [T], value: T)
-    ensures { λ _. ⌜ now (slots .exit) ≡ replicate (length (now (slots .entry))) value ⌝ }
+fn fill<T: Copy>(all: &mut [T], value: T)
+    ensures { λ _. ⌜ now (all .exit) ≡ replicate (length (now (all .entry))) value ⌝ }
 {
-    for k in 0..slots.len() {
-        slots[k] = value;
+    for k in 0..all.len() {
+        all[k] = value;
     }
 }

@@ -8,9 +8,6 @@ use events::refusal::Refusal;
 
 pub mod run;
 
-// Sequences lie below this; a start may be this number itself, and then there is none.
-pub const SEQUENCE_END: u64 = 1 << 62;
-
 // Hands out sequences to claims, and knows which of them are open, that is, claimed and not published.
 pub trait Sequencer: Sized {
     ghost means: { Self → Sequencing };

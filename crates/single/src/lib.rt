@@ -4,9 +4,9 @@ ghost use mathlib.Core.Path.{_≡_};
 ghost use Prim.Native.Nat.{_+_, _^_, _≤_};
 ghost use Rattle.events.specs.Capacity.{isCapacity};
 ghost use Rattle.sequencer.specs.Sequencer.{between};
-use events::capacity::is_capacity;
+use events::limits::SEQUENCE_END;
+use events::limits::is_capacity;
 use events::refusal::Refusal;
-use sequencer::SEQUENCE_END;
 use sequencer::Sequencer;
 
 // Sequences from `published` to below `next` are open.
@@ -17,6 +17,8 @@ pub struct Single {
     published: u64,
     next: u64,
     ghost capacity: { isCapacity slots ≡ true },
+    ghost some: { 1 ≤ slots },
+    ghost most: { slots ≤ 256 },
     ghost begun: { start ≤ published },
     ghost behind: { published ≤ next },
     ghost bounded: { next ≤ 2 ^ 62 },
@@ -56,7 +58,7 @@ pub impl Sequencer for Single as SingleSequencer {
     }
 
     fn next(&self) -> u64 {
-        self.next
+        self.next // the first unclaimed
     }
 
     fn claim(&mut self, n: u64, gate: u64) -> Result<u64, Refusal> {

@@ -6,12 +6,10 @@ ghost use Rattle.playout.specs.Reach.{reachOf, Reaches};
 use crate::plan::Plan;
 use crate::reach::Masks;
 use crate::reach::reach;
+use events::limits::SEQUENCE_END;
 use events::refusal::Refusal;
 
 pub const MOST_STAGES: usize = 8;
-
-// Sequences lie below this; a start may be this number itself, and then there is none.
-pub const SEQUENCE_END: u64 = 1 << 62;
 
 impl Plan {
     // A plan of as many stages as there are masks, each naming only lower-numbered stages.

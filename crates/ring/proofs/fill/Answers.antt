@@ -7,7 +7,7 @@ use Rattle.ring.proofs.fill.Needs as need
 
 pub loop-k-again : need.loop-k-again
 loop-k-again g c =
-    let slots = c .loop-k .slots in
+    let slots = c .loop-k .all in
     let k = c .loop-k .k in
     take-more-set slots k (c .args .value) (omega arith)
     ∙ ap (λ xs. xs ++ (c .args .value ∷ [])) (c .loop-k .inv)
@@ -15,5 +15,5 @@ loop-k-again g c =
 
 pub returns : need.returns
 returns g c =
-    let all : c .loop-k .k ≡ length (c .args .slots .now) = omega arith in
-    sym (take-all (c .loop-k .k) (c .loop-k .slots) (omega arith)) ∙ c .loop-k .inv ∙ ap (λ n. replicate n (c .args .value)) all
+    let all : c .loop-k .k ≡ length (c .args .all .now) = omega arith in
+    sym (take-all (c .loop-k .k) (c .loop-k .all) (omega arith)) ∙ c .loop-k .inv ∙ ap (λ n. replicate n (c .args .value)) all

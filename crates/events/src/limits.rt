@@ -1,9 +1,9 @@
-// Capacities: a ring has a power of two of slots.
+// The limits of rings and sequences.
 ghost use mathlib.Core.Path.{_≡_};
 ghost use Rattle.events.specs.Capacity.{isCapacity};
 
-// The largest capacity.
-pub const MOST_SLOTS: usize = 256;
+// Sequences lie below this; a start may be this number itself, and then there is none.
+pub const SEQUENCE_END: u64 = 1 << 62;
 
 // Whether a number is a power of two from 1 to 256.
 pub fn is_capacity(n: u64) -> bool
