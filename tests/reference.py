@@ -1,7 +1,8 @@
 #!/usr/bin/env python3
-"""A second implementation of the stages and of the as-run record, in plain Python, to compare with.
+"""A second implementation, in plain Python, to compare with: stages, the as-run record, and sequencers as sets.
 
     python3 tests/reference.py asrun < samples/day.cues
+    python3 tests/reference.py byhand
 """
 import struct
 import sys
@@ -118,6 +119,56 @@ def in_order(bank, masks, start, events):
     return rows
 
 
+class Sequencer:
+    """By its meaning: the open set as a set."""
+
+    def __init__(self, slots, start, ordered):
+        self.slots, self.start, self.ordered = slots, start, ordered
+        self.next, self.open = start, set()
+
+    def claim(self, n, gate):
+        if n == 0 or n > self.slots:
+            return "refused 17"
+        end = self.next + n
+        if end > 2**62:
+            return "refused 18"
+        if end > gate + self.slots or any(s < end - self.slots for s in self.open):
+            return "refused 19"
+        first, self.next = self.next, end
+        self.open |= set(range(first, end))
+        return first
+
+    def publish(self, lo, hi):
+        span = set(range(lo, hi))
+        if not span or not span <= self.open or (self.ordered and lo != min(self.open)):
+            return "refused 25"
+        self.open -= span
+        return hi
+
+    def first(self, start):
+        return min((s for s in self.open if s >= start), default=self.next)
+
+
+def byhand():
+    """What the program `byhand` prints."""
+    out = []
+    for title, ordered in (("single", True), ("multi", False)):
+        out.append(f"{title}-producer sequencer")
+        q, slots = Sequencer(4, 0, ordered), [0] * 4
+        for call in ("claim 2 0", "claim 1 0", "publish 2 3", "first 0", "publish 0 2", "first 0", "publish 2 3",
+                     "first 0", "claim 2 0", "claim 1 0", "claim 5 4", "claim 1 4", "publish 3 4", "claim 1 4"):
+            name, *args = call.split()
+            args = [int(a) for a in args]
+            answer = getattr(q, name)(*args)
+            if name == "claim" and isinstance(answer, int):
+                for s in range(answer, answer + args[0]):
+                    slots[s % 4] = s
+            text = {"claim": "claim {} with gate {}", "publish": "publish {} to {}", "first": "first from {}"}[name]
+            out.append(f"{text.format(*args)}: {answer}")
+        out.append("slots: " + " ".join(map(str, slots)))
+    return "\n".join(out) + "\n"
+
+
 def cues(data):
     return [struct.unpack_from("<BBxxIQ", data, at) for at in range(0, len(data), 16)]
 
@@ -136,5 +187,7 @@ def asrun(data):
 if __name__ == "__main__":
     if sys.argv[1:] == ["asrun"]:
         sys.stdout.write(asrun(sys.stdin.buffer.read()))
+    elif sys.argv[1:] == ["byhand"]:
+        sys.stdout.write(byhand())
     else:
         sys.exit(__doc__)

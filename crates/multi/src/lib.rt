@@ -125,11 +125,11 @@ pub impl Sequencer for Multi as MultiSequencer {
     }
 
     fn start(&self) -> u64 {
-        self.start
+        self.start // the first of all
     }
 
     fn in_order(&self) -> bool {
-        false
+        false // published in any order
     }
 
     fn next(&self) -> u64 {

@@ -50,11 +50,11 @@ pub impl Sequencer for Single as SingleSequencer {
     }
 
     fn start(&self) -> u64 {
-        self.start
+        self.start // the first of all
     }
 
     fn in_order(&self) -> bool {
-        true
+        true // published in the order of claims
     }
 
     fn next(&self) -> u64 {

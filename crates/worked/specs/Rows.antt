@@ -1,12 +1,14 @@
 -- Worked rows: what the definitions give on each side of a line. Assumes nothing.
+use mathlib.Core.Bool.{Bool, false}
 use mathlib.Core.List.{List, [], _∷_, _++_}
 use mathlib.Core.Path.{_≡_}
-use Prim.Native.Nat.{ℕ}
+use Prim.Native.Nat.{ℕ, _-_, _^_}
 use lib.ListN.{getD, replicate, take}
-use Rattle.events.specs.Refusals.{accepted, refused}
+use Rattle.events.specs.Refusals.{Reply, accepted, refused}
 use Rattle.events.specs.Words.{blankCue, cueWords, madePacket}
 use Rattle.cue_stages.specs.Air.{air, airFigures, freshAir}
 use Rattle.cue_stages.specs.Check.{check, checkFigures, freshCheck}
+use Rattle.sequencer.specs.Sequencer.{claimAnswer}
 use Rattle.stages.specs.Journal.{freshJournal, journal, journalFigures}
 use Rattle.stages.specs.Meaning.{Given, Meaning, after, markOf}
 
@@ -58,8 +60,18 @@ pub record AirRows : Type 0 where
   pub resumed : shownAfter ((0, 7) ∷ (1, 0) ∷ (2, 0) ∷ []) ≡ 15
   pub cleared : shownAfter ((0, 7) ∷ (1, 0) ∷ (2, 0) ∷ (3, 0) ∷ []) ≡ 0
 
+-- a fresh sequencer of capacity 4, in order or not, and its answer to a claim of 1
+abbrev pub claimAt : Bool → ℕ → Reply ℕ
+claimAt ordered start = claimAnswer (record { slots = 4; start = start; ordered = ordered; next = start; isOpen = λ _. false }) 1 start
+
+-- at the start 2^62 sequences have run out; one before it, one is left
+pub record SequencerRows : Type 0 where
+  pub out : (ordered : Bool) → claimAt ordered (2 ^ 62) ≡ refused 18
+  pub one : (ordered : Bool) → claimAt ordered (2 ^ 62 - 1) ≡ accepted (2 ^ 62 - 1)
+
 pub record WorkedRows : Type 0 where
   pub journal : JournalRows
   pub packet : PacketRows
   pub check : CheckRows
   pub air : AirRows
+  pub sequencer : SequencerRows
