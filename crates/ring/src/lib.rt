@@ -8,8 +8,8 @@ ghost use Rattle.ring.specs.Ring.{checked, eventAt, madeEvents, madeMarks, mar
 ghost use Rattle.stages.specs.Marks.{shown};
 ghost use Rattle.std.specs.Options.{mapped};
 use events::event::Event;
-use events::limits::is_capacity;
 use events::refusal::Refusal;
+use limits::is_capacity;
 use stages::marks::Marks;
 use stages::marks::show;
 

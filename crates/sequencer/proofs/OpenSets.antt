@@ -6,25 +6,30 @@ use mathlib.Core.Logic.{_⊎_, inl, inr}
 use Prim.Native.Nat.{ℕ, suc, _+_, _-_, _^_, _<_, _≤_}
 use native.Mathlib.Omega.{arith}
 use lib.Dec.{eqb, leb, ltb}
-use Rattle.events.specs.Capacity.{isCapacity}
+use Rattle.limits.specs.Capacity.{isCapacity}
 use Rattle.events.specs.Refusals.{Reply, accepted, left, refused}
-use Rattle.std.proofs.shelf.Tests.{and-parts, cases-lt, leb-true, ltb-true, true≢false}
+use Rattle.std.proofs.shelf.Tests.{true≢false}
 use Rattle.std.proofs.shelf.Ways.{tells}
-use Rattle.sequencer.specs.Laws.{Claimed, Freed, Fresh, OpenSet, Published, SameAnswers, Took, frees, takes}
+use Rattle.sequencer.specs.Laws.{Claimed, Freed, Fresh, OpenSet, Published, SameAnswers, Took, Twins}
 use Rattle.sequencer.specs.Runs.{Entry, afterSteps, history, stepped}
 use Rattle.sequencer.specs.Sequencer.{Sequencing, allFrom, between, claimAnswer, claimed, fresh, grown, publishAnswer, published, shrunk, someBelow}
 use Rattle.sequencer.specs.declared.run.Step.{Step}
 use Rattle.sequencer.specs.declared.run.Step.the-variants.{Claim, Publish, First}
-use Rattle.sequencer.proofs.Sets.{all-at, between-in}
+use Rattle.sequencer.proofs.Sets.{all-at, between-in, between-parts}
 
 accepted-same : {A : Type 0} (x y : A) → accepted x ≡ accepted y → x ≡ y
 accepted-same x y e = cc
 
-pub same-answers : SameAnswers
-same-answers a b fa fb slots start ordered steps =
+-- two made alike mean the same
+pub twins-same : (a b : Sequencing) → Twins a b → a ≡ b
+twins-same a b t =
     let made : fresh (a .ordered) (a .slots) (a .start) ≡ fresh (b .ordered) (b .slots) (b .start) =
-    ap (λ o. fresh o (a .slots) (a .start)) ordered ∙ ap (λ n. fresh (b .ordered) n (a .start)) slots ∙ ap (fresh (b .ordered) (b .slots)) start in
-    let same : a ≡ b = accepted-same a b (sym fa ∙ made ∙ fb) in
+    ap (λ o. fresh o (a .slots) (a .start)) (t .ordered) ∙ ap (λ n. fresh (b .ordered) n (a .start)) (t .slots) ∙ ap (fresh (b .ordered) (b .slots)) (t .start) in
+    accepted-same a b (sym (t .a-fresh) ∙ made ∙ t .b-fresh)
+
+pub same-answers : SameAnswers
+same-answers a b t steps =
+    let same = twins-same a b t in
     (ap (λ q. history q steps) same, ap (λ q. afterSteps q steps) same)
 
 -- what a claim answers is next, and what it publishes was all open
@@ -55,11 +60,6 @@ or-in : (a b : Bool) → (a ≡ true) ⊎ (b ≡ true) → (a || b) ≡ true
 or-in true b e = refl
 or-in false b (inl e) = absurd (true≢false (sym e))
 or-in false b (inr e) = e
-
-between-parts : (from upto s : ℕ) → between from upto s ≡ true → (from ≤ s) × (s < upto)
-between-parts from upto s e =
-    let both = and-parts (leb from s) (ltb s upto) e in
-    (leb-true from s (both .0), ltb-true s upto (both .1))
 
 and-not : (a b : Bool) → a ≡ true → (b ≡ true → ⊥) → (a && not b) ≡ true
 and-not a true e out = absurd (out refl)

@@ -6,9 +6,9 @@ use Prim.Native.Nat.{ℕ, zero, suc, _+_, _-_, _<_, _≤_}
 use native.Mathlib.Nat.{add-zero}
 use native.Mathlib.Numerals.{add-one}
 use native.Mathlib.Omega.{arith}
-use lib.Dec.{ltb}
+use lib.Dec.{leb, ltb}
 use Rattle.std.proofs.shelf.Ways.{tells}
-use Rattle.std.proofs.shelf.Tests.{cases-lt, le-ltb, lt-ltb, true≢false}
+use Rattle.std.proofs.shelf.Tests.{and-parts, cases-lt, le-ltb, leb-true, lt-ltb, ltb-true, true≢false}
 use Rattle.sequencer.specs.Sequencer.{allFrom, between, leastFrom, someBelow}
 
 or-true : (b : Bool) → (b || true) ≡ true
@@ -28,6 +28,11 @@ between-below from upto s h = grind (arith, tells)
 
 pub between-past : (from upto s : ℕ) → upto ≤ s → between from upto s ≡ false
 between-past from upto s h = grind (arith, tells)
+
+pub between-parts : (from upto s : ℕ) → between from upto s ≡ true → (from ≤ s) × (s < upto)
+between-parts from upto s e =
+    let both = and-parts (leb from s) (ltb s upto) e in
+    (leb-true from s (both .0), ltb-true s upto (both .1))
 
 pub some-more : (set : ℕ → Bool) (n : ℕ) → someBelow set (suc n) ≡ (set n || someBelow set n)
 unfolding someBelow

@@ -14,10 +14,18 @@ use Rattle.sequencer.specs.declared.run.Step.the-variants.{Claim, Publish, Fir
 abbrev pub Fresh : Sequencing → Type 0
 Fresh q = fresh (q .ordered) (q .slots) (q .start) ≡ accepted q
 
--- Any two of one capacity, start and order give the same answers, and have the same sequences open.
+-- two sequencers as they were made, of one capacity, start and order
+pub record Twins (a b : Sequencing) : Type 0 where
+  pub a-fresh : Fresh a
+  pub b-fresh : Fresh b
+  pub slots : a .slots ≡ b .slots
+  pub start : a .start ≡ b .start
+  pub ordered : a .ordered ≡ b .ordered
+
+-- Any two such give the same answers to any list of calls, and have the same sequences open after it.
 abbrev pub SameAnswers : Type 0
 SameAnswers =
-    (a b : Sequencing) → Fresh a → Fresh b → a .slots ≡ b .slots → a .start ≡ b .start → a .ordered ≡ b .ordered → (steps : List Step) → (history a steps ≡ history b steps) × (afterSteps a steps ≡ afterSteps b steps)
+    (a b : Sequencing) → Twins a b → (steps : List Step) → (history a steps ≡ history b steps) × (afterSteps a steps ≡ afterSteps b steps)
 
 -- an accepted claim of n that answered first took the n sequences from there on
 abbrev pub takes : Step → Reply ℕ → ℕ → Type 0

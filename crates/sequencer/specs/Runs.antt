@@ -1,6 +1,8 @@
 -- Lists of calls on a sequencer, with their answers. Assumes nothing.
+use mathlib.Core.Bool.{Bool, true, false, _&&_}
 use mathlib.Core.List.{List, [], _∷_}
 use Prim.Native.Nat.{ℕ, suc}
+use lib.Dec.{eqb}
 use Rattle.events.specs.Refusals.{Reply, accepted, refused}
 use Rattle.sequencer.specs.Sequencer.{Left, Sequencing, claimed, firstOpen, published}
 use Rattle.sequencer.specs.declared.run.Step.{Step}
@@ -35,3 +37,15 @@ oneIf (refused why) n = n
 abbrev pub acceptedIn : List Entry → ℕ
 acceptedIn [] = 0
 acceptedIn (entry ∷ entries) = oneIf (entry .answer) (acceptedIn entries)
+
+-- whether two answers are the same
+abbrev pub sameReply : Reply ℕ → Reply ℕ → Bool
+sameReply (accepted v) (accepted w) = eqb v w
+sameReply (accepted v) (refused n) = false
+sameReply (refused m) (accepted w) = false
+sameReply (refused m) (refused n) = eqb m n
+
+-- whether two sequencers give the same answers to the same calls
+abbrev pub alike : Sequencing → Sequencing → List Step → Bool
+alike q p [] = true
+alike q p (step ∷ steps) = sameReply (stepped q step .answer) (stepped p step .answer) && alike (stepped q step .after) (stepped p step .after) steps

@@ -3,7 +3,7 @@ use mathlib.Core.Bool.{Bool, true, false, cond, not, _&&_, _||_}
 use mathlib.Core.List.{List, [], _∷_}
 use Prim.Native.Nat.{ℕ, zero, suc, _+_, _-_, _^_}
 use lib.Dec.{eqb, leb, ltb}
-use Rattle.events.specs.Capacity.{isCapacity}
+use Rattle.limits.specs.Capacity.{isCapacity}
 use Rattle.events.specs.Refusals.{Reply, accepted, left, unless}
 
 -- capacity, start, whether publishing is in order, the first unclaimed sequence, and which sequences are open,
@@ -45,7 +45,7 @@ pub record Left : Type 0 where
   pub answer : Reply ℕ
   pub after : Sequencing
 
--- Claim of n with a gate refuses 17, 18, 19: no place past the gate, or a sequence open that its slot is still needed for.
+-- Claim of n with a gate refuses 17, then 18, then 19: no place past the gate, or an open sequence whose slot would be taken.
 abbrev pub claimAnswer : Sequencing → ℕ → ℕ → Reply ℕ
 claimAnswer q n gate =
     unless ((eqb n 0 || ltb (q .slots) n, 17)

@@ -1,7 +1,8 @@
 // Sequencers, by their meaning: who may write where, and what may be read.
-ghost use mathlib.Core.Bool.{Bool};
+ghost use mathlib.Core.Bool.{Bool, true};
 ghost use mathlib.Core.Path.{_≡_};
-ghost use Prim.Native.Nat.{_^_, _≤_};
+ghost use Prim.Native.Nat.{ℕ, _^_, _<_, _≤_};
+ghost use Rattle.limits.specs.Capacity.{isCapacity};
 ghost use Rattle.events.specs.Refusals.{replied, reply};
 ghost use Rattle.sequencer.specs.Sequencer.{Sequencing, claimed, firstOpen, fresh, published};
 use events::refusal::Refusal;
@@ -12,6 +13,9 @@ pub mod run;
 pub trait Sequencer: Sized {
     ghost means: { Self → Sequencing };
 
+    // What is open is claimed: it lies below next.
+    law claimed: { (q : Self) (s : ℕ) → means q .isOpen s ≡ true → s < means q .next };
+
     // Whether sequences are published in the order in which they were claimed.
     ghost ordered: { Bool };
 
@@ -21,12 +25,14 @@ pub trait Sequencer: Sized {
 
     fn capacity(&self) -> u64
         ensures value { λ r. ⌜ r ≡ means (now (self .entry)) .slots ⌝ }
+        ensures capacity { λ r. ⌜ isCapacity r ≡ true ⌝ }
         ensures some { λ r. ⌜ 1 ≤ r ⌝ }
         ensures most { λ r. ⌜ r ≤ 256 ⌝ };
 
     // The first sequence of all.
     fn start(&self) -> u64
-        ensures { λ r. ⌜ r ≡ means (now (self .entry)) .start ⌝ };
+        ensures value { λ r. ⌜ r ≡ means (now (self .entry)) .start ⌝ }
+        ensures bound { λ r. ⌜ r ≤ 2 ^ 62 ⌝ };
 
     fn in_order(&self) -> bool
         ensures { λ r. ⌜ r ≡ means (now (self .entry)) .ordered ⌝ };

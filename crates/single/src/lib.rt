@@ -2,15 +2,15 @@
 ghost use mathlib.Core.Bool.{true};
 ghost use mathlib.Core.Path.{_≡_};
 ghost use Prim.Native.Nat.{_+_, _^_, _≤_};
-ghost use Rattle.events.specs.Capacity.{isCapacity};
+ghost use Rattle.limits.specs.Capacity.{isCapacity};
 ghost use Rattle.sequencer.specs.Sequencer.{between};
-use events::limits::SEQUENCE_END;
-use events::limits::is_capacity;
 use events::refusal::Refusal;
+use limits::SEQUENCE_END;
+use limits::is_capacity;
 use sequencer::Sequencer;
 
 // Sequences from `published` to below `next` are open.
-#[derive(Clone, Copy)]
+#[derive(Drop)]
 pub struct Single {
     slots: u64,
     start: u64,

@@ -8,7 +8,7 @@ use Rattle.events.specs.Refusals.{Reply, accepted, refused}
 use Rattle.events.specs.Words.{blankCue, cueWords, madePacket}
 use Rattle.cue_stages.specs.Air.{air, airFigures, freshAir}
 use Rattle.cue_stages.specs.Check.{check, checkFigures, freshCheck}
-use Rattle.sequencer.specs.Sequencer.{claimAnswer}
+use Rattle.sequencer.specs.Sequencer.{Sequencing, claimAnswer, fresh}
 use Rattle.stages.specs.Journal.{freshJournal, journal, journalFigures}
 use Rattle.stages.specs.Meaning.{Given, Meaning, after, markOf}
 
@@ -60,9 +60,13 @@ pub record AirRows : Type 0 where
   pub resumed : shownAfter ((0, 7) ∷ (1, 0) ∷ (2, 0) ∷ []) ≡ 15
   pub cleared : shownAfter ((0, 7) ∷ (1, 0) ∷ (2, 0) ∷ (3, 0) ∷ []) ≡ 0
 
--- a fresh sequencer of capacity 4, in order or not, and its answer to a claim of 1
+abbrev pub claimBy : Reply Sequencing → ℕ → Reply ℕ
+claimBy (accepted q) gate = claimAnswer q 1 gate
+claimBy (refused why) gate = refused why
+
+-- the answer of a fresh sequencer of capacity 4, in order or not, to a claim of 1 with the start as its gate
 abbrev pub claimAt : Bool → ℕ → Reply ℕ
-claimAt ordered start = claimAnswer (record { slots = 4; start = start; ordered = ordered; next = start; isOpen = λ _. false }) 1 start
+claimAt ordered start = claimBy (fresh ordered 4 start) start
 
 -- at the start 2^62 sequences have run out; one before it, one is left
 pub record SequencerRows : Type 0 where

@@ -6,8 +6,8 @@ ghost use Rattle.playout.specs.Reach.{reachOf, Reaches};
 use crate::plan::Plan;
 use crate::reach::Masks;
 use crate::reach::reach;
-use events::limits::SEQUENCE_END;
 use events::refusal::Refusal;
+use limits::SEQUENCE_END;
 
 pub const MOST_STAGES: usize = 8;
 

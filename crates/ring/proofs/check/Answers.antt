@@ -1,6 +1,6 @@
 use mathlib.Core.Path.{sym, _∙_}
 use native.Mathlib.Omega.{arith}
-use Rattle.events.proofs.Capacities.{capacity-most}
+use Rattle.limits.proofs.Capacities.{capacity-most}
 use Rattle.ring.proofs.check.Needs as need
 
 pub mul-slots : need.mul-slots

@@ -2,10 +2,12 @@ use mathlib.Core.Bool.{cond, false}
 use mathlib.Core.Path.{ap, refl}
 use Prim.Native.Nat.{_-_, _^_}
 use Rattle.events.specs.Refusals.{accepted, refused}
+use Rattle.limits.specs.Capacity.{isCapacity}
 use Rattle.sequencer.proofs.Sets.{some-none}
 use Rattle.worked.proofs.worked_rows.Needs as need
 
 pub returns : need.returns
+unfolding isCapacity
 returns c = record {
   journal = record { first = refl; second = refl; both = refl };
   packet = record { empty = λ _. refl; full = λ _. refl; long = λ _. refl };

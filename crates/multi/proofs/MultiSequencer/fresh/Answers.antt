@@ -4,8 +4,8 @@ use Prim.Native.Nat.{ℕ, _*_, _^_}
 use native.Mathlib.Omega.{arith}
 use lib.Dec.{ltb}
 use lib.ListN.{getD, length}
-use Rattle.events.proofs.Capacities.{capacity-most, capacity-some}
-use Rattle.events.specs.Capacity.{isCapacity}
+use Rattle.limits.proofs.Capacities.{capacity-most, capacity-some}
+use Rattle.limits.specs.Capacity.{isCapacity}
 use Rattle.events.specs.Refusals.{Reply, accepted, refused}
 use Rattle.std.proofs.shelf.Lists.{getD-replicate, length-replicate}
 use Rattle.std.proofs.shelf.Tests.{le-ltb}

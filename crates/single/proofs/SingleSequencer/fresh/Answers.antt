@@ -1,8 +1,8 @@
 use mathlib.Core.Bool.{true}
 use mathlib.Core.Path.{_≡_, sym, _∙_}
 use native.Mathlib.Omega.{arith}
-use Rattle.events.proofs.Capacities.{capacity-most, capacity-some}
-use Rattle.events.specs.Capacity.{isCapacity}
+use Rattle.limits.proofs.Capacities.{capacity-most, capacity-some}
+use Rattle.limits.specs.Capacity.{isCapacity}
 use Rattle.single.proofs.SingleSequencer.fresh.Needs as need
 
 pub ghost-result : need.ghost-result

@@ -1,7 +1,7 @@
 use native.Mathlib.Omega.{arith}
 use Rattle.std.proofs.shelf.Ways.{tells}
-use Rattle.events.specs.Capacity.{isCapacity}
-use Rattle.events.proofs.limits.is_capacity.Needs as need
+use Rattle.limits.specs.Capacity.{isCapacity}
+use Rattle.limits.proofs.is_capacity.Needs as need
 
 pub returns-in-rest : need.returns-in-rest
 unfolding isCapacity

@@ -1,6 +1,6 @@
 // The limits of rings and sequences.
 ghost use mathlib.Core.Path.{_≡_};
-ghost use Rattle.events.specs.Capacity.{isCapacity};
+ghost use Rattle.limits.specs.Capacity.{isCapacity};
 
 // Sequences lie below this; a start may be this number itself, and then there is none.
 pub const SEQUENCE_END: u64 = 1 << 62;

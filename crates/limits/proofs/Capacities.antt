@@ -4,7 +4,7 @@ use mathlib.Core.Path.{_≡_}
 use Prim.Native.Nat.{ℕ, _≤_}
 use native.Mathlib.Omega.{arith}
 use Rattle.std.proofs.shelf.Ways.{tells}
-use Rattle.events.specs.Capacity.{isCapacity}
+use Rattle.limits.specs.Capacity.{isCapacity}
 
 pub capacity-some : (n : ℕ) → isCapacity n ≡ true → 1 ≤ n
 unfolding isCapacity
