@@ -9,12 +9,12 @@ use Rattle.events.specs.Refusals.{Reply, accepted, refused, left}
 use Rattle.bank.specs.Bank.{figuresOf}
 use Rattle.playout.specs.InOrder.{Played, played, playedAnswer, rowOf, stagesAfter}
 use Rattle.playout.specs.Plan.{Layout}
-use Rattle.cue_stages.specs.Air.{air, airFigures, freshAir}
+use Rattle.air.specs.Air.{air, airFigures, freshAir}
 use Rattle.cue_stages.specs.Check.{check, checkFigures, freshCheck}
 use Rattle.stages.specs.Journal.{freshJournal, journal, journalFigures}
 use Rattle.stages.specs.Meaning.{Meaning}
 use Rattle.stages.specs.Sieve.{sieved}
-use Rattle.cue_stages.specs.declared.air.Air.{Air}
+use Rattle.air.specs.declared.Air.{Air}
 use Rattle.cue_stages.specs.declared.check.Check.{Check}
 use Rattle.stages.specs.declared.journal.Journal.{Journal}
 use Rattle.std.proofs.shelf.Ways.{tells}

@@ -12,7 +12,7 @@ use Rattle.events.specs.declared.cue.Cue.{Cue}
 use Rattle.bank.specs.Bank.{figuresOf}
 use Rattle.playout.specs.InOrder.{rowOf, stagesAfter}
 use Rattle.playout.specs.Plan.{Layout}
-use Rattle.cue_stages.specs.Air.{air, airFigures, freshAir}
+use Rattle.air.specs.Air.{air, airFigures, freshAir}
 use Rattle.cue_stages.specs.Check.{check, checkFigures, freshCheck}
 use Rattle.stages.specs.Journal.{freshJournal, journal, journalFigures}
 use Rattle.stages.specs.Meaning.{Meaning}

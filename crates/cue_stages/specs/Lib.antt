@@ -1,3 +1,2 @@
-pub mod Air
 pub mod Check
 pub mod Cues

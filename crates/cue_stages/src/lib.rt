@@ -1,5 +1,4 @@
-// The stages that read cues: Check and Air.
-pub mod air;
+// What the stages that read cues share, and the first of them, Check.
 pub mod check;
 
 // Channels are numbered from 0 to the last, and so are the actions that a cue may name.

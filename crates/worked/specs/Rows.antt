@@ -6,7 +6,7 @@ use Prim.Native.Nat.{ℕ, _-_, _^_}
 use lib.ListN.{getD, replicate, take}
 use Rattle.events.specs.Refusals.{Reply, accepted, refused}
 use Rattle.events.specs.Words.{blankCue, cueWords, madePacket}
-use Rattle.cue_stages.specs.Air.{air, airFigures, freshAir}
+use Rattle.air.specs.Air.{air, airFigures, freshAir}
 use Rattle.cue_stages.specs.Check.{check, checkFigures, freshCheck}
 use Rattle.sequencer.specs.Sequencer.{Sequencing, claimAnswer, fresh}
 use Rattle.stages.specs.Journal.{freshJournal, journal, journalFigures}

@@ -22,9 +22,9 @@ pub fn stored<E: Event>(events: &mut [E], marks: &mut [u32], s: u64, event: E)
 #[cfg(test)]
 mod tests {
     use super::stored;
-    use cue_stages::air::Air;
-    use cue_stages::air::AirFigures;
-    use cue_stages::air::AirStage;
+    use air::Air;
+    use air::AirFigures;
+    use air::AirStage;
     use cue_stages::check::Check;
     use cue_stages::check::CheckStage;
     use events::cue::Cue;

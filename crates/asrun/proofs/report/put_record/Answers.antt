@@ -6,7 +6,7 @@ use lib.ListN.{length}
 use Rattle.events.specs.Refusals.{accepted}
 use Rattle.events.specs.Words.{cueWords}
 use Rattle.playout.specs.Plan.{layout}
-use Rattle.cue_stages.specs.Air.{airFigures}
+use Rattle.air.specs.Air.{airFigures}
 use Rattle.cue_stages.specs.Check.{checkFigures}
 use Rattle.stages.specs.Journal.{journalFigures}
 use Rattle.std.proofs.shelf.Lists.{length-map}

@@ -4,13 +4,13 @@ use mathlib.Core.List.{List, [], _∷_, map}
 use Prim.Native.Nat.{ℕ, suc, _+_, _-_, _*_, _/_, _%_}
 use lib.Dec.{ltb, eqb}
 use lib.ListN.{getD, replicate, set}
 use Rattle.cue_stages.specs.Cues.{channelOf, actionOf, itemOf}
 use Rattle.stages.specs.Meaning.{Meaning, oneMore}
-use Rattle.cue_stages.specs.declared.air.Air.{Air}
-use Rattle.cue_stages.specs.declared.air.Action.{Action}
-use Rattle.cue_stages.specs.declared.air.Action.the-variants.{Take, Hold, Resume, Clear}
-use Rattle.cue_stages.specs.declared.air.Shown.{Shown}
-use Rattle.cue_stages.specs.declared.air.Shown.the-variants.{Black, Playing, Held}
+use Rattle.air.specs.declared.Air.{Air}
+use Rattle.air.specs.declared.Action.{Action}
+use Rattle.air.specs.declared.Action.the-variants.{Take, Hold, Resume, Clear}
+use Rattle.air.specs.declared.Shown.{Shown}
+use Rattle.air.specs.declared.Shown.the-variants.{Black, Playing, Held}
 use Rattle.std.specs.declared.option.Option.{Option}
 use Rattle.std.specs.declared.option.Option.the-variants.{Some, None}
 

@@ -1,9 +1,9 @@
 use mathlib.Core.Path.{sym, _∙_}
 use native.Mathlib.Omega.{arith}
-use Rattle.cue_stages.specs.Air.{shownFigure}
-use Rattle.cue_stages.specs.declared.air.Shown.the-variants.{Black}
+use Rattle.air.specs.Air.{shownFigure}
+use Rattle.air.specs.declared.Shown.the-variants.{Black}
 use Rattle.cue_stages.proofs.Tables.{figure-at, figure-past}
-use Rattle.cue_stages.proofs.air.shown_figure.Needs as need
+use Rattle.air.proofs.shown_figure.Needs as need
 
 pub returns-then-i-lt-CHANNELS : need.returns-then-i-lt-CHANNELS
 returns-then-i-lt-CHANNELS c = c .figure .ensures ∙ sym (figure-at shownFigure (c .args .channels .now) (c .args .i) Black)

@@ -2,9 +2,9 @@
 ghost use mathlib.Core.Path.{_≡_};
 ghost use mathlib.Core.List.{map};
 ghost use lib.ListN.{length, getD};
-ghost use Rattle.cue_stages.specs.Air.{actionNamed, air, airFigures, freshAir, obeyed, settled, shownFigure};
-use crate::CHANNELS;
-use crate::LAST_CHANNEL;
+ghost use Rattle.air.specs.Air.{actionNamed, air, airFigures, freshAir, obeyed, settled, shownFigure};
+use cue_stages::CHANNELS;
+use cue_stages::LAST_CHANNEL;
 use events::cue::Cue;
 use events::cue::CueEvent;
 use stages::figures::Figures;

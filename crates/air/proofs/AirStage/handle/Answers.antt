@@ -3,10 +3,10 @@ use native.Mathlib.Omega.{arith}
 use lib.ListN.{getD}
 use Rattle.events.specs.Words.{cueWords}
 use Rattle.std.specs.declared.option.Option.the-variants.{None, Some}
-use Rattle.cue_stages.specs.Air.{air, airFigures, airShows, ignored}
-use Rattle.cue_stages.specs.declared.air.Shown.the-variants.{Black}
-use Rattle.cue_stages.proofs.Channels.{air-shows, air-ignored, air-obeyed, settled-not, settled-so}
-use Rattle.cue_stages.proofs.air.AirStage.handle.Needs as need
+use Rattle.air.specs.Air.{air, airFigures, airShows, ignored}
+use Rattle.air.specs.declared.Shown.the-variants.{Black}
+use Rattle.air.proofs.Channels.{air-shows, air-ignored, air-obeyed, settled-not, settled-so}
+use Rattle.air.proofs.AirStage.handle.Needs as need
 
 pub returns-then-not-obey : need.returns-then-not-obey
 returns-then-not-obey c =
