@@ -1,13 +1,11 @@
 -- A plan: the start, 1 to 8 stages, and for each the mask of the stages directly upstream. Assumes nothing.
-use mathlib.Core.Bool.{Bool, true, false, not, _&&_, _||_}
+use mathlib.Core.Bool.{Bool, true, not, _&&_, _||_}
 use mathlib.Core.List.{List, [], _∷_, _++_}
 use Prim.Native.Nat.{ℕ, suc, _-_, _/_, _^_}
 use lib.Dec.{eqb, ltb}
 use lib.ListN.{length, replicate}
-use Rattle.events.specs.Refusals.{Reply, accepted, refused, unless}
+use Rattle.events.specs.Refusals.{Reply, accepted, unless}
 use Rattle.playout.specs.declared.plan.Plan.{Plan}
-use Rattle.std.specs.declared.result.Result.{Result}
-use Rattle.std.specs.declared.result.Result.the-variants.{Ok, Err}
 
 -- what a plan says: the masks are eight, 0 where there is no stage
 pub record Layout : Type 0 where

@@ -1,4 +1,5 @@
--- The ring's memory: N slots for events and 8N marks. Sequence s has slot s mod N, and stage i has mark i of that slot.
+-- The memory of a ring: a list of events, one a slot, and a list of marks, eight a slot. A sequence goes to the slot that
+-- remains when it is divided by the number of slots, and a stage to the mark of its number there.
 -- Assumes nothing.
 use mathlib.Core.Bool.{Bool, cond, not, _&&_}
 use mathlib.Core.List.{List, [], _∷_, map}
