@@ -1,4 +1,7 @@
 // Air: what each channel shows.
+
+#![tactic(auto)]
+
 ghost use Rattle.std.specs.Prelude.{◌≡◌, map, length, slice_index};
 ghost use Rattle.air.specs.Air.{action_named, air, air_figures, fresh_air, obeyed, settled, shown_figure};
 ghost use Rattle.std.proofs.Common.{rules};

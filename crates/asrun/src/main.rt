@@ -1,4 +1,7 @@
 // Reads a day's cues from standard input and prints the as-run record.
+
+#![tactic(auto)]
+
 mod report;
 
 use report::as_run;

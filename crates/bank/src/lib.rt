@@ -1,4 +1,7 @@
 // A bank: one stage, or a stage followed by a bank.
+
+#![tactic(auto)]
+
 ghost use Rattle.std.specs.Prelude.{◌≡◌, List, [], ◌∷◌, min, ◌≤◌, length, get_or};
 ghost use Rattle.stages.specs.Meaning.{Meaning};
 ghost use Rattle.bank.specs.Bank.{figures_of, handled_by, mark_by};

@@ -1,4 +1,7 @@
 // Runs a ring with each sequencer by hand, and prints what happens.
+
+#![tactic(auto)]
+
 use events::cue::Cue;
 use events::event::Event;
 use events::refusal::Refusal;

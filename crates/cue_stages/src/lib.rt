@@ -1,4 +1,7 @@
 // What the stages that read cues share, and the first of them, Check.
+
+#![tactic(auto)]
+
 pub mod check;
 
 // Channels are numbered from 0 to the last, and so are the actions that a cue may name.

@@ -1,4 +1,7 @@
 // The limits of rings and sequences.
+
+#![tactic(auto)]
+
 ghost use Rattle.std.specs.Prelude.{◌≡◌};
 ghost use Rattle.limits.specs.Capacity.{is_capacity};
 

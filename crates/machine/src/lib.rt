@@ -1,4 +1,7 @@
 // The room machine: what a room keeps of its producers and its stages, and the law of rooms.
+
+#![tactic(auto)]
+
 pub mod law;
 
 // A claim: the sequences from `first` to below `end`; those below `unwritten` are written.

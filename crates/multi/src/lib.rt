@@ -1,4 +1,7 @@
 // The multi-producer sequencer: claims are published in any order, so each slot keeps the round that was published last.
+
+#![tactic(auto)]
+
 ghost use Rattle.std.specs.Prelude.{◌≡◌, ℕ, ◌+◌, ◌-◌, ◌*◌, ◌^◌, ◌<◌, ◌≤◌, true, false, ◌&&◌, length, replicate, nat_lt, slice_index};
 ghost use Rattle.limits.specs.Capacity.{is_capacity};
 ghost use Rattle.multi.specs.Rounds.{oldest, open_by, rounds_after};

@@ -1,4 +1,7 @@
 // The ring: slots for events, with eight marks each, in memory that its maker lends.
+
+#![tactic(auto)]
+
 ghost use Rattle.std.specs.Prelude.{◌≡◌, ◌-◌, ◌^◌, ◌<◌, min, length, set, replicate, slice_set};
 ghost use Rattle.events.specs.Refusals.{reply};
 ghost use Rattle.ring.specs.Ring.{checked, event_at, made_events, made_marks, mark_at, marked, place, row_at, written};

@@ -1,4 +1,7 @@
 // Worked rows of the room: theorems about its definitions, and tests of the code on the same examples.
+
+#![tactic(auto)]
+
 ghost use Rattle.room_rows.specs.Rows.{RoomRows};
 
 // The worked rows of the room are true of the definitions.

@@ -1,4 +1,7 @@
 // Sequencers, by their meaning: who may write where, and what may be read.
+
+#![tactic(auto)]
+
 ghost use Rattle.std.specs.Prelude.{◌≡◌, ℕ, ◌^◌, ◌<◌, ◌≤◌, Bool, true};
 ghost use Rattle.limits.specs.Capacity.{is_capacity};
 ghost use Rattle.events.specs.Refusals.{replied, reply};

@@ -1,4 +1,7 @@
 // The single-producer sequencer: publishing is in order, so one cursor tells what is open.
+
+#![tactic(auto)]
+
 ghost use Rattle.std.specs.Prelude.{◌≡◌, ◌+◌, ◌^◌, ◌≤◌, true};
 ghost use Rattle.limits.specs.Capacity.{is_capacity};
 ghost use Rattle.sequencer.specs.Sequencer.{between};

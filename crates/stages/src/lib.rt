@@ -1,4 +1,7 @@
 // What a stage is, and the stages for events of any kind.
+
+#![tactic(auto)]
+
 pub mod figures;
 pub mod journal;
 pub mod marks;

@@ -1,5 +1,8 @@
 // Plays the same cues in two rooms of different capacity, sequencer and producers, under two orders of calls, and prints
 // what came of it side by side.
+
+#![tactic(auto)]
+
 use air::Air;
 use bank::{Bank, Last, Then};
 use cue_stages::check::Check;

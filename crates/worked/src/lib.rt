@@ -1,4 +1,7 @@
 // Worked rows: theorems about the definitions, and tests of the code on the same examples.
+
+#![tactic(auto)]
+
 ghost use Rattle.std.specs.Prelude.{◌≡◌};
 ghost use Rattle.ring.specs.Ring.{made_events, made_marks, written};
 ghost use Rattle.worked.specs.Rows.{WorkedRows};
