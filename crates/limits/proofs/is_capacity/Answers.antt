@@ -3,18 +3,18 @@ use Rattle.std.proofs.lemmas.Bool.Decides.{nat_tests}
 use Rattle.limits.specs.Capacity.{is_capacity}
 use Rattle.limits.proofs.is_capacity.Goals as goal
 
-pub returns-in-default : goal.returns-in-default
+pub returns-in_default : goal.returns-in_default
 unfolding is_capacity
-returns-in-default c = grind (arith, nat_tests)
+returns-in_default c = grind (arith, nat_tests)
 
-pub returns-in-default·2 : goal.returns-in-default·2
+pub returns-in_default-2 : goal.returns-in_default-2
 unfolding is_capacity
-returns-in-default·2 c = grind (arith, nat_tests)
+returns-in_default-2 c = grind (arith, nat_tests)
 
 pub returns-in-1 : goal.returns-in-1
 unfolding is_capacity
 returns-in-1 c = grind (arith, nat_tests)
 
-pub returns-in-1·2 : goal.returns-in-1·2
+pub returns-in-1-2 : goal.returns-in-1-2
 unfolding is_capacity
-returns-in-1·2 c = grind (arith, nat_tests)
+returns-in-1-2 c = grind (arith, nat_tests)

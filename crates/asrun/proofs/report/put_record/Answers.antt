@@ -16,13 +16,13 @@ grouped a b c d e = simp append_assoc
 accepted_same : {A : Type 0} (x y : A) → accepted x ≡ accepted y → x ≡ y
 accepted_same x y e = cc
 
-pub unreachable-requires-in-default-play-in-order : goal.unreachable-requires-in-default-play-in-order
-unreachable-requires-in-default-play-in-order c =
+pub unreachable-requires-in_default-play-in-order : goal.unreachable-requires-in_default-play-in-order
+unreachable-requires-in_default-play-in-order c =
     let cues = map cue_words c.args.cues.now in
     let long : length cues ≡ length c.args.cues.now = length-map c.args.cues.now cue_words in
     let lays : layout c.in-Ok.plan ≡ day_layout = accepted_same _ _ c.in-Ok.ensures in
     let banks = day_bank_lem c.new.result c.new-2.result c.new-3.result c.new.ensures c.new-2.ensures c.new-3.ensures in
-    day_accepted cues c.args.rows.now (omega arith) (omega arith) _ _ _ _ lays banks c.in-default-play-in-order.ensures refl
+    day_accepted cues c.args.rows.now (omega arith) (omega arith) _ _ _ _ lays banks c.in_default-play-in-order.ensures refl
 
 pub returns : goal.returns
 returns c =

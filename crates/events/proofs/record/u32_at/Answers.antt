@@ -8,6 +8,6 @@ unfolding u32_at
 returns c =
     let bytes = c.args.bytes.now in
     let at = c.args.at in
-    let value : c.from-le-bytes.result ≡ u32_at bytes at = omega (arith, c.from-le-bytes.ensures) in
+    let value : c.from_le_bytes.result ≡ u32_at bytes at = omega (arith, c.from_le_bytes.ensures) in
     let here : leb (at + 4) (length bytes) ≡ true = le-leb (at + 4) (length bytes) (omega arith) in
     ap Some value ∙ sym (ap (λ b. cond b (Some (u32_at bytes at)) None) here)
