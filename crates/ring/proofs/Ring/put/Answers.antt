@@ -6,6 +6,6 @@ pub returns-then-slots-eq0 : goal.returns-then-slots-eq0
 returns-then-slots-eq0 g c = record {
   events = sym (set_past c.args.self.now.events.now _ c.args.event (omega arith));
   marks = refl;
-  same-events = refl;
-  same-marks = refl;
+  same_events = refl;
+  same_marks = refl;
 }

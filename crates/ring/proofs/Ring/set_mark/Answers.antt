@@ -6,6 +6,6 @@ pub returns-else-at-self : goal.returns-else-at-self
 returns-else-at-self g c = record {
   marks = marked_past (length c.args.self.now.events.now) c.args.self.now.marks.now c.args.s c.args.i c.args.mark (omega arith);
   events = refl;
-  same-events = refl;
-  same-marks = refl;
+  same_events = refl;
+  same_marks = refl;
 }
