@@ -1,4 +1,4 @@
--- The steps of the one-after-another run. Assumes nothing.
+-- The steps of the one_after-another run. Assumes nothing.
 use Rattle.std.proofs.Common.{◌≡◌, ℕ, ◌+◌, ◌^◌, ◌<◌, ◌≤◌, min, Bool, true, false, cond, not, ◌||◌, eqb, ltb, List, [], ◌∷◌, map, length, get_or, set, replicate, sym, refl, ap, ◌∙◌, add-one, arith}
 use Rattle.events.specs.Refusals.{Reply, accepted, left, refused, unless}
 use Rattle.bank.specs.Bank.{handled_by, mark_by}

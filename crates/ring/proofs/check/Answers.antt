@@ -3,4 +3,4 @@ use Rattle.limits.proofs.Capacities.{capacity_most}
 use Rattle.ring.proofs.check.Goals as goal
 
 pub overflow-mul-slots : goal.overflow-mul-slots
-overflow-mul-slots c = omega (arith, capacity_most c.args.slots (sym c.is-capacity.ensures ∙ c.if-not-is-capacity.false))
+overflow-mul-slots c = omega (arith, capacity_most c.args.slots (sym c.is_capacity.ensures ∙ c.if-not-is_capacity.false))

@@ -16,13 +16,13 @@ grouped a b c d e = simp append_assoc
 accepted_same : {A : Type 0} (x y : A) → accepted x ≡ accepted y → x ≡ y
 accepted_same x y e = cc
 
-pub unreachable-requires-in_default-play-in-order : goal.unreachable-requires-in_default-play-in-order
-unreachable-requires-in_default-play-in-order c =
+pub unreachable-requires-in_default-play_in_order : goal.unreachable-requires-in_default-play_in_order
+unreachable-requires-in_default-play_in_order c =
     let cues = map cue_words c.args.cues.now in
     let long : length cues ≡ length c.args.cues.now = length-map c.args.cues.now cue_words in
     let lays : layout c.in-Ok.plan ≡ day_layout = accepted_same _ _ c.in-Ok.ensures in
     let banks = day_bank_lem c.new.result c.new-2.result c.new-3.result c.new.ensures c.new-2.ensures c.new-3.ensures in
-    day_accepted cues c.args.rows.now (omega arith) (omega arith) _ _ _ _ lays banks c.in_default-play-in-order.ensures refl
+    day_accepted cues c.args.rows.now (omega arith) (omega arith) _ _ _ _ lays banks c.in_default-play_in_order.ensures refl
 
 pub returns : goal.returns
 returns c =
@@ -31,12 +31,12 @@ returns c =
     let lays : layout c.in-Ok.plan ≡ day_layout = accepted_same _ _ c.in-Ok.ensures in
     let banks = day_bank_lem c.new.result c.new-2.result c.new-3.result c.new.ensures c.new-2.ensures c.new-3.ensures in
     let before = string_bytes c.args.out.now in
-    let bank = c.play-in-order.new.bank in
-    let lines = cue_lines cues c.play-in-order.new.rows in
+    let bank = c.play_in_order.new.bank in
+    let lines = cue_lines cues c.play_in_order.new.rows in
     let check0 = stage_line 0 (check_figures bank.stage) in
     let air1 = stage_line 1 (air_figures bank.rest.stage.below) in
     let journal2 = stage_line 2 (journal_figures bank.rest.rest.stage) in
-    c.in-ok-put-stage-3.ensures
-    ∙ ap (λ bs. bs ++ journal2) (c.in-ok-put-stage-2.ensures ∙ ap (λ bs. bs ++ air1) (c.in-ok-put-stage.ensures ∙ ap (λ bs. bs ++ check0) (c.in-ok-put-cues.ensures ∙ ap (λ n. before ++ lines n) (sym long))))
+    c.in-ok-put_stage-3.ensures
+    ∙ ap (λ bs. bs ++ journal2) (c.in-ok-put_stage-2.ensures ∙ ap (λ bs. bs ++ air1) (c.in-ok-put_stage.ensures ∙ ap (λ bs. bs ++ check0) (c.in-ok-put_cues.ensures ∙ ap (λ n. before ++ lines n) (sym long))))
     ∙ grouped before (lines (length cues)) check0 air1 journal2
-    ∙ ap (λ bs. before ++ bs) (day_record cues c.args.rows.now (omega arith) (omega arith) _ _ _ lays banks c.in-Ok-play-in-order.ensures)
+    ∙ ap (λ bs. before ++ bs) (day_record cues c.args.rows.now (omega arith) (omega arith) _ _ _ lays banks c.in-Ok-play_in_order.ensures)

@@ -6,5 +6,5 @@ pub returns : goal.returns
 returns g c =
     let fields = figure_fields (g.F.Figures.figures c.args.stage.now) in
     c.in-ok-write-2.ensures.bytes
-    ∙ ap (λ bs. bs ++ 10 ∷ []) (c.in-ok-put-figures.ensures ∙ ap (λ bs. bs ++ fields) c.in-ok-write.ensures.bytes)
+    ∙ ap (λ bs. bs ++ 10 ∷ []) (c.in-ok-put_figures.ensures ∙ ap (λ bs. bs ++ fields) c.in-ok-write.ensures.bytes)
     ∙ simp append_assoc

@@ -28,12 +28,12 @@ loop-s-init c =
 pub loop-s-preserved : goal.loop-s-preserved
 loop-s-preserved c =
     let m = c.args.self.now in
-    all_next (open_by m.slots m.start m.next m.rounds) c.args.lo c.loop-s.s (omega arith) c.loop-s.invariant (sym c.if-not-is-open.ensures)
+    all_next (open_by m.slots m.start m.next m.rounds) c.args.lo c.loop-s.s (omega arith) c.loop-s.invariant (sym c.if-not-is_open.ensures)
 
-pub returns-then-not-is-open : goal.returns-then-not-is-open
-returns-then-not-is-open c =
+pub returns-then-not-is_open : goal.returns-then-not-is_open
+returns-then-not-is_open c =
     let m = c.args.self.now in
-    all_false (open_by m.slots m.start m.next m.rounds) c.args.lo c.args.hi c.loop-s.s (omega arith) (omega arith) (sym c.if-not-is-open.ensures)
+    all_false (open_by m.slots m.start m.next m.rounds) c.args.lo c.args.hi c.loop-s.s (omega arith) (omega arith) (sym c.if-not-is_open.ensures)
 
 pub returns : goal.returns
 returns c =

@@ -12,12 +12,12 @@ loop-s-init c =
 pub loop-s-preserved : goal.loop-s-preserved
 loop-s-preserved c =
     let m = c.args.self.now in
-    some_next (open_by m.slots m.start m.next m.rounds) c.loop-s.s c.loop-s.invariant (sym c.if-is-open.ensures)
+    some_next (open_by m.slots m.start m.next m.rounds) c.loop-s.s c.loop-s.invariant (sym c.if-is_open.ensures)
 
-pub returns-then-is-open : goal.returns-then-is-open
-returns-then-is-open c =
+pub returns-then-is_open : goal.returns-then-is_open
+returns-then-is_open c =
     let m = c.args.self.now in
-    sym (some_has (open_by m.slots m.start m.next m.rounds) c.args.floor c.loop-s.s c.loop-s-test.true (sym c.if-is-open.ensures))
+    sym (some_has (open_by m.slots m.start m.next m.rounds) c.args.floor c.loop-s.s c.loop-s-test.true (sym c.if-is_open.ensures))
 
 pub returns : goal.returns
 returns c =

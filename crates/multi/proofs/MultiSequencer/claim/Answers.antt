@@ -8,4 +8,4 @@ pub returns : goal.returns
 returns c =
     let m = c.args.self.now in
     claim_accepted m.slots m.start m.next m.rounds c.args.n c.args.gate m.some m.begun m.rounded (omega arith) (omega arith) (omega arith) (omega arith)
-    (c.if-any-open-below.ensures ∙ ap (some_below (open_by m.slots m.start m.next m.rounds)) c.saturating-sub-floor.ensures)
+    (c.if-any_open_below.ensures ∙ ap (some_below (open_by m.slots m.start m.next m.rounds)) c.saturating_sub-floor.ensures)

@@ -18,9 +18,9 @@ loop-s-init c =
 pub loop-s-preserved : goal.loop-s-preserved
 loop-s-preserved c =
     let m = c.args.self.now in
-    c.loop-s.invariant ∙ first_on m.slots m.start m.next m.rounds c.loop-s.s (omega arith) (sym c.if-is-open.ensures) ∙ ap (first_open (q m.slots m.start m.next m.rounds)) (sym (add-one c.loop-s.s))
+    c.loop-s.invariant ∙ first_on m.slots m.start m.next m.rounds c.loop-s.s (omega arith) (sym c.if-is_open.ensures) ∙ ap (first_open (q m.slots m.start m.next m.rounds)) (sym (add-one c.loop-s.s))
 
-pub returns-then-is-open : goal.returns-then-is-open
-returns-then-is-open c =
+pub returns-then-is_open : goal.returns-then-is_open
+returns-then-is_open c =
     let m = c.args.self.now in
-    sym (c.loop-s.invariant ∙ first_here m.slots m.start m.next m.rounds c.loop-s.s (omega arith) (sym c.if-is-open.ensures))
+    sym (c.loop-s.invariant ∙ first_here m.slots m.start m.next m.rounds c.loop-s.s (omega arith) (sym c.if-is_open.ensures))

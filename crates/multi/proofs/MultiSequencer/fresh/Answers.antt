@@ -10,7 +10,7 @@ use Rattle.multi.proofs.MultiSequencer.fresh.Goals as goal
 
 pub invariant-of-result : goal.invariant-of-result
 invariant-of-result c =
-    let fits : is_capacity c.args.capacity ≡ true = sym c.is-capacity.ensures ∙ c.if-not-is-capacity.false in
+    let fits : is_capacity c.args.capacity ≡ true = sym c.is_capacity.ensures ∙ c.if-not-is_capacity.false in
     let most = capacity_most c.args.capacity fits in (
       fits,
       (
@@ -22,8 +22,8 @@ invariant-of-result c =
             (
               omega arith,
               (
-                ap length c.no-rounds-rounds.ensures ∙ length-replicate {A = ℕ} 256 0,
-                (λ i h. let none = ap (λ r. get_or r i 0 * c.args.capacity) c.no-rounds-rounds.ensures ∙ ap (λ n. n * c.args.capacity) (get_or-replicate {A = ℕ} 256 i 0 0 (omega arith)) in omega (arith, none), tt),
+                ap length c.no_rounds-rounds.ensures ∙ length-replicate {A = ℕ} 256 0,
+                (λ i h. let none = ap (λ r. get_or r i 0 * c.args.capacity) c.no_rounds-rounds.ensures ∙ ap (λ n. n * c.args.capacity) (get_or-replicate {A = ℕ} 256 i 0 0 (omega arith)) in omega (arith, none), tt),
               ),
             ),
           ),
@@ -33,8 +33,8 @@ invariant-of-result c =
 
 pub returns : goal.returns
 returns c =
-    let fits : is_capacity c.args.capacity ≡ true = sym c.is-capacity.ensures ∙ c.if-not-is-capacity.false in
-    let set = open_fresh c.args.capacity c.args.start c.no-rounds-rounds.result in
+    let fits : is_capacity c.args.capacity ≡ true = sym c.is_capacity.ensures ∙ c.if-not-is_capacity.false in
+    let set = open_fresh c.args.capacity c.args.start c.no_rounds-rounds.result in
     let near : ltb (2 ^ 62) c.args.start ≡ false = le-ltb (2 ^ 62) c.args.start (omega arith) in
     let out : (ℕ → Bool) → Reply Sequencing = λ p. accepted (record { slots = c.args.capacity; start = c.args.start; ordered = false; next = c.args.start; is_open = p }) in
     let tests : Bool → Bool → Reply Sequencing = λ a b. cond (not a) (refused 3) (cond b (refused 7) (out (λ _. false))) in

@@ -6,17 +6,17 @@ use Rattle.multi.specs.Multis.{publish_accepted, publish_window}
 use Rattle.multi.specs.Windows.{after_length, rounds_claimed}
 use Rattle.multi.proofs.MultiSequencer.publish.Goals as goal
 
-pub publish-rounds-requires : goal.publish-rounds-requires
-publish-rounds-requires c =
+pub publish_rounds-requires : goal.publish_rounds-requires
+publish_rounds-requires c =
     let m = c.args.self.now in
-    let window = publish_window m.slots m.start m.next m.rounds c.args.lo c.args.hi c.if-not-all-open.ensures in
+    let window = publish_window m.slots m.start m.next m.rounds c.args.lo c.args.hi c.if-not-all_open.ensures in
     (m.some, m.most, omega arith, omega (arith, m.bounded))
 
 pub invariant-of-self : goal.invariant-of-self
 invariant-of-self c =
     let m = c.args.self.now in
     let n = c.args.hi - c.args.lo in
-    let window = publish_window m.slots m.start m.next m.rounds c.args.lo c.args.hi c.if-not-all-open.ensures in
+    let window = publish_window m.slots m.start m.next m.rounds c.args.lo c.args.hi c.if-not-all_open.ensures in
     let each = rounds_claimed m.slots m.rounds c.args.lo n m.next m.some (omega (arith, m.most, m.table)) (omega arith) m.rounded in (
       m.capacity,
       (
@@ -28,8 +28,8 @@ invariant-of-self c =
             (
               m.bounded,
               (
-                ap length c.publish-rounds.ensures ∙ after_length m.slots m.rounds c.args.lo n ∙ m.table,
-                (subst (λ (r : List ℕ). (i : ℕ) → i < m.slots → get_or r i 0 * m.slots + i < m.next + m.slots) (sym c.publish-rounds.ensures) each, tt),
+                ap length c.publish_rounds.ensures ∙ after_length m.slots m.rounds c.args.lo n ∙ m.table,
+                (subst (λ (r : List ℕ). (i : ℕ) → i < m.slots → get_or r i 0 * m.slots + i < m.next + m.slots) (sym c.publish_rounds.ensures) each, tt),
               ),
             ),
           ),
@@ -41,5 +41,5 @@ pub returns : goal.returns
 returns c =
     let m = c.args.self.now in
     let out : List ℕ → Left = λ r. record { answer = accepted c.args.hi; after = record { slots = m.slots; start = m.start; ordered = false; next = m.next; is_open = open_by m.slots m.start m.next r } } in
-    ap out c.publish-rounds.ensures
-    ∙ publish_accepted m.slots m.start m.next m.rounds c.args.lo c.args.hi m.some (omega (arith, m.most, m.table)) c.if-not-all-open.ensures
+    ap out c.publish_rounds.ensures
+    ∙ publish_accepted m.slots m.start m.next m.rounds c.args.lo c.args.hi m.some (omega (arith, m.most, m.table)) c.if-not-all_open.ensures

@@ -12,7 +12,7 @@ loop-i-preserved g c =
     let masks = c.args.plan.now.masks in
     let words = g.E.Event.words c.args.event.now in
     let p : Pass = record { stages = g.B.Bank.stages c.loop-i.bank; row = c.loop-i.row } in
-    handled masks c.args.sequence words c.loop-i.i p _ _ c.pass-stage.ensures.grows c.pass-stage.ensures.mark
+    handled masks c.args.sequence words c.loop-i.i p _ _ c.pass_stage.ensures.grows c.pass_stage.ensures.mark
     ∙ ap (handling masks c.args.sequence words c.loop-i.i) c.loop-i.invariant
     ∙ passed_more masks c.args.sequence words (g.B.Bank.stages c.args.bank.now) c.loop-i.i
 

@@ -1,4 +1,4 @@
 use Rattle.playout.proofs.reach.+reach_below.Given as goal
 
-abbrev pub decreases-reach-below : goal.decreases-reach-below
-decreases-reach-below l = l.n
+abbrev pub decreases-reach_below : goal.decreases-reach_below
+decreases-reach_below l = l.n

@@ -8,8 +8,8 @@ pub returns-then-i-lt8 : goal.returns-then-i-lt8
 returns-then-i-lt8 c =
     let masks = c.args.masks.now in
     record {
-      value = c.reach-below.ensures;
-      reaches = λ ordered. subst (λ r. Reaches masks c.args.i r) (sym c.reach-below.ensures) (reaches masks c.args.i ordered);
+      value = c.reach_below.ensures;
+      reaches = λ ordered. subst (λ r. Reaches masks c.args.i r) (sym c.reach_below.ensures) (reaches masks c.args.i ordered);
     }
 
 pub returns-else-i-lt8 : goal.returns-else-i-lt8

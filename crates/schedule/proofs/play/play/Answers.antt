@@ -31,8 +31,8 @@ returns-in-err-run g c =
       lawful = run_lawful c.args.plan bank g.S.Sequencer.ordered c.args.capacity c.args.producers slots marks calls;
       steady = λ room e. absurd (never_refused (number why) room (sym is ∙ e));
       events = c.in-err-run.ensures.events ∙ ap (λ (r : Reply Room). left r c.args.ring.now.events.now (events_after c.args.calls.now (map reply c.run.new.answers) c.args.ring.now.events.now)) (sym is);
-      same-events = c.run.ensures.same-events;
-      same-marks = c.run.ensures.same-marks;
+      same_events = c.run.ensures.same_events;
+      same_marks = c.run.ensures.same_marks;
     }
 
 pub returns : goal.returns
@@ -52,6 +52,6 @@ returns g c =
       lawful = run_lawful c.args.plan bank g.S.Sequencer.ordered c.args.capacity c.args.producers slots marks calls;
       steady = λ room e. subst (Steady (layout c.args.plan)) (accepted_is after.room room e) (run_steady c.args.plan bank g.S.Sequencer.ordered c.args.capacity c.args.producers slots marks calls made after.room (sym c.in-ok-room.ensures) (ap (λ (w : World). w.room) (ended_after (world_of made slots marks bank) after calls answers (map reply c.run.new.answers) was)));
       events = c.in-ok-run.ensures.events;
-      same-events = c.run.ensures.same-events;
-      same-marks = c.run.ensures.same-marks;
+      same_events = c.run.ensures.same_events;
+      same_marks = c.run.ensures.same_marks;
     }

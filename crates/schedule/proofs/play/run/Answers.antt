@@ -15,20 +15,20 @@ pub loop-k-preserved : goal.loop-k-preserved
 loop-k-preserved g c =
     let words = g.E.Event.words in
     let now : World = world_of (room_of g.S.Sequencer.means c.loop-k.room) (map words c.loop-k.ring.events.now) c.loop-k.ring.marks.now (g.B.Bank.stages c.loop-k.bank) in
-    let after : World = world_of (room_of g.S.Sequencer.means c.make-call.new.room) (map words c.make-call.new.ring.events.now) c.make-call.new.ring.marks.now (g.B.Bank.stages c.make-call.new.bank) in
+    let after : World = world_of (room_of g.S.Sequencer.means c.make_call.new.room) (map words c.make_call.new.ring.events.now) c.make_call.new.ring.marks.now (g.B.Bank.stages c.make_call.new.bank) in
     let calls : List Call = map (call_of words) c.args.calls.now in
     let k = c.loop-k.k in
     let d : Call = call_of words c.index-calls-k.result in
     let long : length calls ≡ length c.args.calls.now = length-map c.args.calls.now (call_of words) in
     let within : c.loop-k.k < length calls = omega arith in
     let here : d ≡ get_or calls k d = ap (call_of words) c.index-calls-k.is ∙ sym (get_or-map (call_of words) c.args.calls.now k c.index-calls-k.result d c.loop-k-test.true) in
-    let told = c.make-call.ensures.does ∙ ap (called now) here in (
-      after_on now calls k d (reply c.make-call.result) after within told _ c.loop-k.invariant.0,
+    let told = c.make_call.ensures.does ∙ ap (called now) here in (
+      after_on now calls k d (reply c.make_call.result) after within told _ c.loop-k.invariant.0,
       (
-        answers_on now calls k d (reply c.make-call.result) after within told c.loop-k.answers c.make-call.result _ (omega arith) refl c.loop-k.invariant.1.0,
+        answers_on now calls k d (reply c.make_call.result) after within told c.loop-k.answers c.make_call.result _ (omega arith) refl c.loop-k.invariant.1.0,
         (
-          events_on c.args.calls.now k c.index-calls-k.result c.loop-k-test.true c.index-calls-k.is now words after (reply c.make-call.result) c.make-call.ensures.does c.loop-k.ring.events.now c.make-call.new.ring.events.now _ c.make-call.ensures.events c.loop-k.invariant.1.1.0,
-          (c.make-call.ensures.same-events ∙ c.loop-k.invariant.1.1.1.0, c.make-call.ensures.same-marks ∙ c.loop-k.invariant.1.1.1.1),
+          events_on c.args.calls.now k c.index-calls-k.result c.loop-k-test.true c.index-calls-k.is now words after (reply c.make_call.result) c.make_call.ensures.does c.loop-k.ring.events.now c.make_call.new.ring.events.now _ c.make_call.ensures.events c.loop-k.invariant.1.1.0,
+          (c.make_call.ensures.same_events ∙ c.loop-k.invariant.1.1.1.0, c.make_call.ensures.same_marks ∙ c.loop-k.invariant.1.1.1.1),
         ),
       ),
     )
@@ -42,8 +42,8 @@ returns-then-answers-calls g c =
     record {
       does = run_none _ calls (map reply c.args.answers.now) (λ e. c.if-answers-calls.true (sym many ∙ e ∙ long));
       events = refl;
-      same-events = refl;
-      same-marks = refl;
+      same_events = refl;
+      same_marks = refl;
     }
 
 pub returns : goal.returns
@@ -59,6 +59,6 @@ returns g c =
     record {
       does = run_all first now calls c.args.answers.now c.loop-k.answers c.loop-k.k (omega arith) (omega arith) c.loop-k.invariant.0 answers;
       events = sym none ∙ c.loop-k.invariant.1.1.0 ∙ ap (λ xs. events_after c.args.calls.now xs c.args.ring.now.events.now) (sym answers);
-      same-events = c.loop-k.invariant.1.1.1.0;
-      same-marks = c.loop-k.invariant.1.1.1.1;
+      same_events = c.loop-k.invariant.1.1.1.0;
+      same_marks = c.loop-k.invariant.1.1.1.1;
     }

@@ -18,12 +18,12 @@ loop-step-preserved g c =
     let p = g.T.Sequencer.means c.loop-step.other in
     let steps = c.args.steps.now in
     let k = c.loop-step.step-index in
-    let a : Left = record { answer = reply c.take-step.result; after = g.S.Sequencer.means c.take-step.new.sequencer } in
-    let b : Left = record { answer = reply c.take-step-in-loop-step.result; after = g.T.Sequencer.means c.take-step-in-loop-step.new.sequencer } in (
-      after_on q steps k (Claim 0 0) c.take-step.result a.after (omega arith) c.take-step.ensures _ c.loop-step.invariant.0,
-      after_on p steps k (Claim 0 0) c.take-step-in-loop-step.result b.after (omega arith) c.take-step-in-loop-step.ensures _ c.loop-step.invariant.1,
-      ap (λ here. (c.loop-step.same && here) && alike a.after b.after (drop (k + 1) steps)) c.same-answer-here.ensures
-          ∙ alike_on q p steps k (Claim 0 0) a b c.loop-step.same _ (omega arith) c.take-step.ensures c.take-step-in-loop-step.ensures c.loop-step.invariant.2,
+    let a : Left = record { answer = reply c.take_step.result; after = g.S.Sequencer.means c.take_step.new.sequencer } in
+    let b : Left = record { answer = reply c.take_step-in-loop-step.result; after = g.T.Sequencer.means c.take_step-in-loop-step.new.sequencer } in (
+      after_on q steps k (Claim 0 0) c.take_step.result a.after (omega arith) c.take_step.ensures _ c.loop-step.invariant.0,
+      after_on p steps k (Claim 0 0) c.take_step-in-loop-step.result b.after (omega arith) c.take_step-in-loop-step.ensures _ c.loop-step.invariant.1,
+      ap (λ here. (c.loop-step.same && here) && alike a.after b.after (drop (k + 1) steps)) c.same_answer-here.ensures
+          ∙ alike_on q p steps k (Claim 0 0) a b c.loop-step.same _ (omega arith) c.take_step.ensures c.take_step-in-loop-step.ensures c.loop-step.invariant.2,
     )
 
 pub returns : goal.returns
@@ -38,7 +38,7 @@ returns g c =
     let value = sym (and_true c.loop-step.same) ∙ ap (λ b. c.loop-step.same && b) (sym none) ∙ c.loop-step.invariant.2 in
     record {
       value = value;
-      one-after = sym one ∙ c.loop-step.invariant.0;
+      one_after = sym one ∙ c.loop-step.invariant.0;
       other_after = sym other ∙ c.loop-step.invariant.1;
       twins = λ t. value ∙ alike_twins _ _ steps (twins_same _ _ t);
     }

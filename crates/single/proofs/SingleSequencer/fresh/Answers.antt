@@ -5,5 +5,5 @@ use Rattle.single.proofs.SingleSequencer.fresh.Goals as goal
 
 pub invariant-of-result : goal.invariant-of-result
 invariant-of-result c =
-    let fits : is_capacity c.args.capacity ≡ true = sym c.is-capacity.ensures ∙ c.if-not-is-capacity.false in
+    let fits : is_capacity c.args.capacity ≡ true = sym c.is_capacity.ensures ∙ c.if-not-is_capacity.false in
     (fits, (capacity_some c.args.capacity fits, (capacity_most c.args.capacity fits, (omega arith, (omega arith, (omega arith, (omega arith, tt)))))))

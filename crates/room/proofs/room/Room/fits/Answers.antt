@@ -18,7 +18,7 @@ returns g c =
     let long = length-map ring.events.now g.E.Event.words in
     let slots : c.slots-slots.result ≡ length (map g.E.Event.words ring.events.now) = omega arith in
     let few = room.plan.few in
-    let here : (eqb c.mark-count.result (8 * c.slots-slots.result) && eqb c.size.result c.stages.result) ≡ (eqb (length ring.marks.now) (8 * length (map g.E.Event.words ring.events.now)) && eqb c.size.result room.plan.stages) = cc in
+    let here : (eqb c.mark_count.result (8 * c.slots-slots.result) && eqb c.size.result c.stages.result) ≡ (eqb (length ring.marks.now) (8 * length (map g.E.Event.words ring.events.now)) && eqb c.size.result room.plan.stages) = cc in
     let value = here
     ∙ sizes_same (length ring.marks.now) (length (map g.E.Event.words ring.events.now)) (g.S.Sequencer.means room.sequencer).slots (length (g.B.Bank.stages c.args.bank.now)) room.plan.stages c.size.result (omega arith) c.size.ensures few in
     record { value = value; some = λ yes. omega arith }

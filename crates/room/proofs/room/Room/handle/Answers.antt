@@ -30,8 +30,8 @@ returns g c =
     let made : List ℕ → List ℕ → Given = λ ws ms. record { sequence = at; words = ws; marks = ms } in
     let same : got ≡ given w i = ap (λ ws. made ws c.marks-marks.result) event ∙ ap (made (get_or slots (at % length slots) [])) marks in
     record {
-      does = handle_done w i fit (omega arith) (omega arith) got same c.handle-mark.result (map words c.set-mark.new.self.events.now) c.set-mark.new.self.marks.now (g.B.Bank.stages c.handle-mark.new.self) c.handle-mark.ensures.mark (ap (map words) c.set-mark.ensures.events) (c.set-mark.ensures.marks ∙ ap (λ n. marked n ring.marks.now at i c.handle-mark.result) long) c.handle-mark.ensures.grows;
-      events = c.set-mark.ensures.events;
-      same-events = c.set-mark.ensures.same-events;
-      same-marks = c.set-mark.ensures.same-marks;
+      does = handle_done w i fit (omega arith) (omega arith) got same c.handle-mark.result (map words c.set_mark.new.self.events.now) c.set_mark.new.self.marks.now (g.B.Bank.stages c.handle-mark.new.self) c.handle-mark.ensures.mark (ap (map words) c.set_mark.ensures.events) (c.set_mark.ensures.marks ∙ ap (λ n. marked n ring.marks.now at i c.handle-mark.result) long) c.handle-mark.ensures.grows;
+      events = c.set_mark.ensures.events;
+      same_events = c.set_mark.ensures.same_events;
+      same_marks = c.set_mark.ensures.same_marks;
     }

@@ -14,6 +14,6 @@ returns g c =
     record {
       does = write_done w c.args.producer fit c.if-producer-self.false claim c.in-Some.is (words c.args.event) (map words c.put.new.self.events.now) c.put.new.self.marks.now c.if-sequence-claim.false (ap (map words) c.put.ensures.events ∙ words_written words ring.events.now claim.unwritten c.args.event) c.put.ensures.marks;
       events = c.put.ensures.events;
-      same-events = c.put.ensures.same-events;
-      same-marks = c.put.ensures.same-marks;
+      same_events = c.put.ensures.same_events;
+      same_marks = c.put.ensures.same_marks;
     }
