@@ -104,7 +104,7 @@ impl Sequencer for Multi {
 
     ghost ordered = { false };
 
-    ghost claimed = { λ q s open1. (open_window q.slots q.start q.next q.rounds s open1).1 };
+    ghost open_below_next = { λ q s open1. (open_window q.slots q.start q.next q.rounds s open1).1 };
 
     fn fresh(capacity: u64, start: u64) -> Result<Multi, Refusal> {
         if !is_capacity(capacity) {

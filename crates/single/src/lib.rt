@@ -32,7 +32,7 @@ impl Sequencer for Single {
 
     ghost ordered = { true };
 
-    ghost claimed = { λ q s open1. (between_parts q.published q.next s open1).1 };
+    ghost open_below_next = { λ q s open1. (between_parts q.published q.next s open1).1 };
 
     fn fresh(capacity: u64, start: u64) -> Result<Single, Refusal> {
         if !is_capacity(capacity) {

@@ -6,6 +6,6 @@ returns c =
     let cue = c.args.cue.now in
     let row = c.args.row.now in
     let marks = 32 ∷ (decimal (get_or row 0 0) ++ (32 ∷ (decimal (get_or row 1 0) ++ (32 ∷ (decimal (get_or row 2 0) ++ (10 ∷ [])))))) in
-    c.in-ok-write-2.ensures.bytes
-    ∙ ap (λ bs. bs ++ marks) c.in-ok-write.ensures.bytes
+    c.in_ok-write-2.ensures.bytes
+    ∙ ap (λ bs. bs ++ marks) c.in_ok-write.ensures.bytes
     ∙ simp append_assoc

@@ -11,7 +11,7 @@ loop-k-preserved c =
     let rows = c.args.rows.now in
     let k = c.loop-k.k in
     let before = string_bytes c.args.out.now in
-    c.in-ok-put_cue.ensures
+    c.in_ok-put_cue.ensures
     ∙ ap (λ bs. bs ++ cue_line k (cue_words (get_or cues k blank_cue)) (get_or rows k [])) c.loop-k.invariant
     ∙ ap (λ words. (before ++ cue_lines (map cue_words cues) rows k) ++ cue_line k words (get_or rows k [])) (sym (get_or-map cue_words cues k blank_cue [] (omega arith)))
     ∙ lines_more before (map cue_words cues) rows k

@@ -9,7 +9,7 @@ loop-k-preserved g c =
     let k = c.loop-k.k in
     let before = string_bytes c.args.out.now in
     let next : take k figures ++ (c.figure-n.result ∷ []) ≡ take (k + 1) figures = ap (λ n. take k figures ++ (n ∷ [])) c.figure-n.ensures ∙ sym (take_more figures k 0 (omega arith)) in
-    c.in-ok-write.ensures.bytes
+    c.in_ok-write.ensures.bytes
     ∙ ap (λ bs. bs ++ (32 ∷ decimal c.figure-n.result)) c.loop-k.invariant
     ∙ flat_map_more (λ n. 32 ∷ decimal n) before (take k figures) c.figure-n.result
     ∙ ap (λ fs. before ++ figure_fields fs) next

@@ -36,7 +36,7 @@ returns c =
     let check0 = stage_line 0 (check_figures bank.stage) in
     let air1 = stage_line 1 (air_figures bank.rest.stage.below) in
     let journal2 = stage_line 2 (journal_figures bank.rest.rest.stage) in
-    c.in-ok-put_stage-3.ensures
-    ∙ ap (λ bs. bs ++ journal2) (c.in-ok-put_stage-2.ensures ∙ ap (λ bs. bs ++ air1) (c.in-ok-put_stage.ensures ∙ ap (λ bs. bs ++ check0) (c.in-ok-put_cues.ensures ∙ ap (λ n. before ++ lines n) (sym long))))
+    c.in_ok-put_stage-3.ensures
+    ∙ ap (λ bs. bs ++ journal2) (c.in_ok-put_stage-2.ensures ∙ ap (λ bs. bs ++ air1) (c.in_ok-put_stage.ensures ∙ ap (λ bs. bs ++ check0) (c.in_ok-put_cues.ensures ∙ ap (λ n. before ++ lines n) (sym long))))
     ∙ grouped before (lines (length cues)) check0 air1 journal2
     ∙ ap (λ bs. before ++ bs) (day_record cues c.args.rows.now (omega arith) (omega arith) _ _ _ lays banks c.in-Ok-play_in_order.ensures)

@@ -10,7 +10,7 @@ loop-k-preserved c =
     let input = c.args.input.now in
     let k = c.loop-k.k in
     let cue : c.in-Some.cue ≡ cue_at input (16 * k) = within_some input (16 * k) 16 (cue_at input (16 * k)) c.in-Some.cue c.in-Some.ensures in
-    c.in-ok-push.ensures.items
+    c.in_ok-push.ensures.items
     ∙ ap (λ cues. cues ++ (c.in-Some.cue ∷ [])) c.loop-k.invariant
     ∙ ap (λ x. map (λ n. cue_at input (16 * n)) (range_with_len 0 k) ++ (x ∷ [])) cue
     ∙ sym (map-range_with_len_more (λ n. cue_at input (16 * n)) 0 k k (omega arith))

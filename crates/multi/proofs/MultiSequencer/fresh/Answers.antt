@@ -8,8 +8,8 @@ use Rattle.sequencer.specs.Sequencer.{Sequencing}
 use Rattle.multi.specs.Windows.{open_fresh}
 use Rattle.multi.proofs.MultiSequencer.fresh.Goals as goal
 
-pub invariant-of-result : goal.invariant-of-result
-invariant-of-result c =
+pub invariant_of-result : goal.invariant_of-result
+invariant_of-result c =
     let fits : is_capacity c.args.capacity ≡ true = sym c.is_capacity.ensures ∙ c.if-not-is_capacity.false in
     let most = capacity_most c.args.capacity fits in (
       fits,

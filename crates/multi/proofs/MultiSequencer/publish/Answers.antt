@@ -12,8 +12,8 @@ publish_rounds-requires c =
     let window = publish_window m.slots m.start m.next m.rounds c.args.lo c.args.hi c.if-not-all_open.ensures in
     (m.some, m.most, omega arith, omega (arith, m.bounded))
 
-pub invariant-of-self : goal.invariant-of-self
-invariant-of-self c =
+pub invariant_of-self : goal.invariant_of-self
+invariant_of-self c =
     let m = c.args.self.now in
     let n = c.args.hi - c.args.lo in
     let window = publish_window m.slots m.start m.next m.rounds c.args.lo c.args.hi c.if-not-all_open.ensures in

@@ -3,7 +3,7 @@ use Rattle.limits.proofs.Capacities.{capacity_most, capacity_some}
 use Rattle.limits.specs.Capacity.{is_capacity}
 use Rattle.single.proofs.SingleSequencer.fresh.Goals as goal
 
-pub invariant-of-result : goal.invariant-of-result
-invariant-of-result c =
+pub invariant_of-result : goal.invariant_of-result
+invariant_of-result c =
     let fits : is_capacity c.args.capacity ≡ true = sym c.is_capacity.ensures ∙ c.if-not-is_capacity.false in
     (fits, (capacity_some c.args.capacity fits, (capacity_most c.args.capacity fits, (omega arith, (omega arith, (omega arith, (omega arith, tt)))))))

@@ -28,20 +28,18 @@ loop-i-preserved c =
       rest ∙ ap (λ n. lower n (drop (i + 1) masks)) (sym (add-one i)),
     )
 
-pub invariant-of-result : goal.invariant-of-result
-invariant-of-result c =
+pub invariant_of-result : goal.invariant_of-result
+invariant_of-result c =
     let masks = c.args.masks.now in
     let all = stored_all c.loop-i.all masks c.loop-i.i (omega arith) c.loop-i.invariant.0 in
-    let low = lower_all masks c.loop-i.i c.loop-i-test.false c.loop-i.invariant.1 in (
-      omega arith,
-      (
-        omega arith,
-        (
-          omega arith,
-          (ap length all ∙ stored_length masks (omega arith), (subst Ordered (sym all) (lower_ordered masks (8 - length masks) low), tt)),
-        ),
-      ),
-    )
+    let low = lower_all masks c.loop-i.i c.loop-i-test.false c.loop-i.invariant.1 in
+    record {
+      started = omega arith;
+      some = omega arith;
+      few = omega arith;
+      eight = ap length all ∙ stored_length masks (omega arith);
+      ordered = subst Ordered (sym all) (lower_ordered masks (8 - length masks) low);
+    }
 
 pub returns : goal.returns
 returns c =
