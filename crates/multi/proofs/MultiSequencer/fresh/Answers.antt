@@ -11,25 +11,18 @@ use Rattle.multi.proofs.MultiSequencer.fresh.Goals as goal
 pub invariant_of-result : goal.invariant_of-result
 invariant_of-result c =
     let fits : is_capacity c.args.capacity ≡ true = sym c.is_capacity.ensures ∙ c.if-not-is_capacity.false in
-    let most = capacity_most c.args.capacity fits in (
-      fits,
-      (
-        capacity_some c.args.capacity fits,
-        (
-          most,
-          (
-            omega arith,
-            (
-              omega arith,
-              (
-                ap length c.no_rounds-rounds.ensures ∙ length-replicate {A = ℕ} 256 0,
-                (λ i h. let none = ap (λ r. get_or r i 0 * c.args.capacity) c.no_rounds-rounds.ensures ∙ ap (λ n. n * c.args.capacity) (get_or-replicate {A = ℕ} 256 i 0 0 (omega arith)) in omega (arith, none), tt),
-              ),
-            ),
-          ),
-        ),
-      ),
-    )
+    record {
+      capacity = fits;
+      some = capacity_some c.args.capacity fits;
+      most = capacity_most c.args.capacity fits;
+      begun = omega arith;
+      bounded = omega arith;
+      table = ap length c.no_rounds-rounds.ensures ∙ length-replicate {A = ℕ} 256 0;
+      rounded = λ i h.
+          let most = capacity_most c.args.capacity fits in
+          let none = ap (λ r. get_or r i 0 * c.args.capacity) c.no_rounds-rounds.ensures ∙ ap (λ n. n * c.args.capacity) (get_or-replicate {A = ℕ} 256 i 0 0 (omega arith)) in
+          omega (arith, none);
+    }
 
 pub returns : goal.returns
 returns c =

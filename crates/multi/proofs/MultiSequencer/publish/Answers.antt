@@ -10,32 +10,23 @@ pub publish_rounds-requires : goal.publish_rounds-requires
 publish_rounds-requires c =
     let m = c.args.self.now in
     let window = publish_window m.slots m.start m.next m.rounds c.args.lo c.args.hi c.if-not-all_open.ensures in
-    (m.some, m.most, omega arith, omega (arith, m.bounded))
+    record { le_slots = m.some; slots_bound = m.most; lo_le_hi = omega arith; hi_bound = omega (arith, m.bounded) }
 
 pub invariant_of-self : goal.invariant_of-self
 invariant_of-self c =
     let m = c.args.self.now in
     let n = c.args.hi - c.args.lo in
     let window = publish_window m.slots m.start m.next m.rounds c.args.lo c.args.hi c.if-not-all_open.ensures in
-    let each = rounds_claimed m.slots m.rounds c.args.lo n m.next m.some (omega (arith, m.most, m.table)) (omega arith) m.rounded in (
-      m.capacity,
-      (
-        m.some,
-        (
-          m.most,
-          (
-            m.begun,
-            (
-              m.bounded,
-              (
-                ap length c.publish_rounds.ensures ∙ after_length m.slots m.rounds c.args.lo n ∙ m.table,
-                (subst (λ (r : List ℕ). (i : ℕ) → i < m.slots → get_or r i 0 * m.slots + i < m.next + m.slots) (sym c.publish_rounds.ensures) each, tt),
-              ),
-            ),
-          ),
-        ),
-      ),
-    )
+    let each = rounds_claimed m.slots m.rounds c.args.lo n m.next m.some (omega (arith, m.most, m.table)) (omega arith) m.rounded in
+    record {
+      capacity = m.capacity;
+      some = m.some;
+      most = m.most;
+      begun = m.begun;
+      bounded = m.bounded;
+      table = ap length c.publish_rounds.ensures ∙ after_length m.slots m.rounds c.args.lo n ∙ m.table;
+      rounded = subst (λ (r : List ℕ). (i : ℕ) → i < m.slots → get_or r i 0 * m.slots + i < m.next + m.slots) (sym c.publish_rounds.ensures) each;
+    }
 
 pub returns : goal.returns
 returns c =

@@ -6,4 +6,12 @@ use Rattle.single.proofs.SingleSequencer.fresh.Goals as goal
 pub invariant_of-result : goal.invariant_of-result
 invariant_of-result c =
     let fits : is_capacity c.args.capacity ≡ true = sym c.is_capacity.ensures ∙ c.if-not-is_capacity.false in
-    (fits, (capacity_some c.args.capacity fits, (capacity_most c.args.capacity fits, (omega arith, (omega arith, (omega arith, (omega arith, tt)))))))
+    record {
+      capacity = fits;
+      some = capacity_some c.args.capacity fits;
+      most = capacity_most c.args.capacity fits;
+      begun = omega arith;
+      behind = omega arith;
+      bounded = omega arith;
+      within = omega arith;
+    }
