@@ -125,8 +125,8 @@ fn read_cues(heap: Global, input: &[u8]) -> Result<Vec<Cue>, AllocError>
 
 // Plays the cues one after another from sequence 0 and writes their record; the rows are for the marks.
 fn put_record(out: &mut String, cues: &[Cue], rows: &mut [Marks]) -> fmt::Result
-    requires rows_len { length rows.old ≡ length cues.now }
-    requires cues_len_bound { length cues.now ≤ 2 ^ 62 }
+    requires same_length { length rows.old ≡ length cues.now }
+    requires bounded { length cues.now ≤ 2 ^ 62 }
     ensures { OnOk result (string_bytes out.new ≡ string_bytes out.old ++ record_of (map cue_words cues.now)) }
 {
     let mut bank = Then {

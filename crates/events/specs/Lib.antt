@@ -1,4 +1,4 @@
 pub mod Records
 pub mod Refusals
 pub mod Words
-pub mod Bytes
+pub mod Fewness

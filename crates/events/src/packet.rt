@@ -4,7 +4,7 @@ ghost use Rattle.events.specs.Refusals.{reply};
 ghost use Rattle.events.specs.Words.{packet_words, blank_packet, made_packet};
 ghost use Prim.Native.Nat;
 ghost use Rattle.std.proofs.Common.{arith};
-ghost use Rattle.events.specs.Bytes.{words_few};
+ghost use Rattle.events.specs.Fewness.{words_few};
 
 use crate::event::Event;
 use crate::refusal::Refusal;

@@ -1,3 +1,2 @@
 pub mod Rounds
-pub mod Multis
-pub mod Windows
+pub mod Within

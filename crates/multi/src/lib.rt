@@ -6,7 +6,7 @@ ghost use Rattle.std.specs.Prelude.{◌≡◌, ℕ, ◌+◌, ◌-◌, ◌*◌, �
 ghost use Rattle.limits.specs.Capacity.{is_capacity};
 ghost use Rattle.multi.specs.Rounds.{oldest, open_by, rounds_after};
 ghost use Rattle.sequencer.specs.Sequencer.{all_from, some_below};
-ghost use Rattle.multi.specs.Multis.{open_window};
+ghost use Rattle.multi.specs.Within.{open_window};
 
 use events::refusal::Refusal;
 use limits::{SEQUENCE_END, is_capacity};
@@ -88,10 +88,10 @@ fn no_rounds() -> Rounds
 
 // Leaves the rounds of the sequences from lo to below hi in their slots.
 fn publish_rounds(rounds: &mut Rounds, slots: u64, lo: u64, hi: u64)
-    requires le_slots { 1 ≤ slots }
-    requires slots_bound { slots ≤ 256 }
-    requires lo_le_hi { lo ≤ hi }
-    requires hi_bound { hi ≤ 2 ^ 62 }
+    requires some { 1 ≤ slots }
+    requires most { slots ≤ 256 }
+    requires rising { lo ≤ hi }
+    requires bounded { hi ≤ 2 ^ 62 }
     ensures { rounds.new ≡ rounds_after slots rounds.old lo (hi - lo) }
 {
     for s in lo..hi {

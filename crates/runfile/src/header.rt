@@ -100,8 +100,8 @@ fn check_size(file: &[u8]) -> Result<(), Fault>
 
 // The 32-bit field at a place of the header.
 fn field(file: &[u8], at: usize) -> u32
-    requires in_bounds { 48 ≤ length file.now }
-    requires at_bound { at ≤ 44 }
+    requires whole { 48 ≤ length file.now }
+    requires low { at ≤ 44 }
     ensures { result ≡ u32_at file.now at }
 {
     match u32_at(file, at) {
@@ -185,9 +185,9 @@ fn read_start(file: &[u8]) -> Result<u64, Fault>
 
 // The section whose offset stands at a place of the header. Numbers of 32 bits, so no sum of 64 bits wraps.
 fn read_section(file: &[u8], place: usize, count: u32, size: usize) -> Result<Section, Fault>
-    requires in_bounds { 48 ≤ length file.now }
-    requires place_bound { place ≤ 44 }
-    requires size_bound { size ≤ 68 }
+    requires whole { 48 ≤ length file.now }
+    requires low { place ≤ 44 }
+    requires small { size ≤ 68 }
     ensures { told result ≡ section_of file.now place count size }
 {
     let start = field(file, place) as usize;

@@ -58,8 +58,8 @@ fn read_stage(
     kind: EventKind,
     masks: &Masks,
 ) -> Result<StageRecord, Fault>
-    requires at_in_bounds { at + 4 ≤ length file.now }
-    requires i_bound { i < 8 }
+    requires within { at + 4 ≤ length file.now }
+    requires eight { i < 8 }
     ensures { told result ≡ stage_at file.now kind masks.now i at }
 {
     let code = file[at];
@@ -108,8 +108,8 @@ fn no_tasks() -> [Task; 8]
 
 // The stage records of a section.
 pub(crate) fn read_lineup(file: &[u8], section: Section, kind: EventKind) -> Result<Lineup, Fault>
-    requires count_in_bounds { section.start + section.count * 4 ≤ length file.now }
-    requires count_bound { section.count ≤ 8 }
+    requires within { section.start + section.count * 4 ≤ length file.now }
+    requires eight { section.count ≤ 8 }
     ensures { told result ≡ lineup_of file.now kind section.start section.count }
 {
     let mut tasks = no_tasks();

@@ -29,7 +29,7 @@ pub record Ended : Type 0 where
 abbrev pub ended : World → List machine.Call → List (Reply ℕ) → Ended
 ended w calls answers =
     cond (length answers == length calls)
-    (record { answer = accepted tt; after = machine.afterCalls w calls; answers = machine.answersTo w calls })
+    (record { answer = accepted tt; after = machine.after_calls w calls; answers = machine.answers_to w calls })
     (record { answer = refused 11; after = w; answers = answers })
 
 -- The events of the ring themselves, after a call and after a list of calls with their answers.
@@ -56,7 +56,7 @@ pub record Played : Type 0 where
   pub answers : List (Reply ℕ)
 
 abbrev pub end_of : machine.Course → Played
-end_of c = record { room = accepted c.world.room; slots = c.world.slots; marks = c.world.marks; bank = c.world.bank; answers = machine.answersIn c.history }
+end_of c = record { room = accepted c.world.room; slots = c.world.slots; marks = c.world.marks; bank = c.world.bank; answers = machine.answers_in c.history }
 
 -- A making that is refused leaves all as it was, and so does a list of calls with another number of places for answers, by
 -- 11. What else is left is the end of the course that the calls take from the making on.

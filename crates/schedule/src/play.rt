@@ -53,8 +53,8 @@ pub fn play<S: Sequencer + Drop, E: Event, B: Bank<E>>(
     calls: &[Call<E>],
     answers: &mut [Answer],
 ) -> Result<Room<S>, Refusal>
-    ensures does { record { room = replied (room_of S.Sequencer.means) result; slots = map E.Event.words ring.new.events.now; marks = ring.new.marks.now; bank = B.Bank.stages bank.new; answers = map reply answers.new } ≡ played_by (machine.roomMade S.Sequencer.ordered (layout plan) capacity producers) (map E.Event.words ring.old.events.now) ring.old.marks.now (B.Bank.stages bank.old) (map (call_of E.Event.words) calls.now) (map reply answers.old) }
-    ensures lawful { (room : machine.Room) → machine.roomMade S.Sequencer.ordered (layout plan) capacity producers ≡ accepted room → Lawful (layout plan) (B.Bank.stages bank.old) capacity (onwards (begun room (map E.Event.words ring.old.events.now) ring.old.marks.now (B.Bank.stages bank.old)) (map (call_of E.Event.words) calls.now)) }
+    ensures does { record { room = replied (room_of S.Sequencer.means) result; slots = map E.Event.words ring.new.events.now; marks = ring.new.marks.now; bank = B.Bank.stages bank.new; answers = map reply answers.new } ≡ played_by (machine.room_made S.Sequencer.ordered (layout plan) capacity producers) (map E.Event.words ring.old.events.now) ring.old.marks.now (B.Bank.stages bank.old) (map (call_of E.Event.words) calls.now) (map reply answers.old) }
+    ensures lawful { (room : machine.Room) → machine.room_made S.Sequencer.ordered (layout plan) capacity producers ≡ accepted room → Lawful (layout plan) (B.Bank.stages bank.old) capacity (onwards (begun room (map E.Event.words ring.old.events.now) ring.old.marks.now (B.Bank.stages bank.old)) (map (call_of E.Event.words) calls.now)) }
     ensures steady { (room : machine.Room) → replied (room_of S.Sequencer.means) result ≡ accepted room → Steady (layout plan) room }
     ensures events { ring.new.events.now ≡ left (replied (room_of S.Sequencer.means) result) ring.old.events.now (events_after calls.now (map reply answers.new) ring.old.events.now) }
     ensures same_events { ring.new.events.ghost_name ≡ ring.old.events.ghost_name }

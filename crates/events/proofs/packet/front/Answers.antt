@@ -1,5 +1,5 @@
 use Rattle.std.proofs.Common.{get_or, set, ap, ◌∙◌, arith}
-use Rattle.events.specs.Bytes.{front_more}
+use Rattle.events.proofs.Bytes.{front_more}
 use Rattle.events.proofs.packet.front.Goals as goal
 
 pub loop-i-preserved : goal.loop-i-preserved

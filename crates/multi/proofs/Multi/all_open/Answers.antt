@@ -2,7 +2,7 @@ use Rattle.std.proofs.Common.{◌≡◌, ◌-◌, ◌<◌, ◌≤◌, max, false
 use Rattle.multi.specs.Rounds.{open_by}
 use Rattle.sequencer.specs.Sequencer.{all_from}
 use Rattle.sequencer.proofs.Sets.{all_empty, all_false, all_next, all_none, all_true}
-use Rattle.multi.specs.Windows.{open_below, open_past}
+use Rattle.multi.specs.Within.{open_below, open_past}
 use Rattle.multi.proofs.Multi.all_open.Goals as goal
 
 pub returns-then-hi-lo : goal.returns-then-hi-lo

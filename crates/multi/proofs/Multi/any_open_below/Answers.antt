@@ -1,7 +1,7 @@
 use Rattle.std.proofs.Common.{sym, ◌∙◌, arith}
 use Rattle.multi.specs.Rounds.{open_by}
 use Rattle.sequencer.proofs.Sets.{some_fewer, some_has, some_next, some_none}
-use Rattle.multi.specs.Windows.{open_below}
+use Rattle.multi.specs.Within.{open_below}
 use Rattle.multi.proofs.Multi.any_open_below.Goals as goal
 
 pub loop-s-init : goal.loop-s-init

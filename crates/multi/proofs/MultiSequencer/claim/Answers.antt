@@ -1,7 +1,7 @@
 use Rattle.std.proofs.Common.{ap, ◌∙◌, arith}
 use Rattle.multi.specs.Rounds.{open_by}
 use Rattle.sequencer.specs.Sequencer.{some_below}
-use Rattle.multi.specs.Multis.{claim_accepted}
+use Rattle.multi.proofs.Multis.{claim_accepted}
 use Rattle.multi.proofs.MultiSequencer.claim.Goals as goal
 
 pub returns : goal.returns

@@ -2,7 +2,7 @@ use Rattle.std.proofs.Common.{◌≡◌, ◌+◌, ◌-◌, sym, ap, ◌∙◌, �
 use Rattle.std.proofs.lemmas.Bool.{cases_lt}
 use Rattle.multi.specs.Rounds.{oldest}
 use Rattle.sequencer.specs.Sequencer.{first_open}
-use Rattle.multi.specs.Multis.{first_here, first_on, first_skip, q}
+use Rattle.multi.proofs.Multis.{first_here, first_on, first_skip, q}
 use Rattle.multi.proofs.MultiSequencer.first.Goals as goal
 
 pub loop-s-init : goal.loop-s-init

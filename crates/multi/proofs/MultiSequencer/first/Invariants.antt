@@ -1,6 +1,6 @@
 use Rattle.std.proofs.Common.{◌≡◌, ◌-◌}
 use Rattle.sequencer.specs.Sequencer.{first_open}
-use Rattle.multi.specs.Multis.{q}
+use Rattle.multi.proofs.Multis.{q}
 use Rattle.multi.proofs.MultiSequencer.first.Given as goal
 
 -- None was found before s.

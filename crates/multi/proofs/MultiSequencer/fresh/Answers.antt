@@ -5,7 +5,7 @@ use Rattle.events.specs.Refusals.{Reply, accepted, refused}
 use Rattle.std.proofs.lemmas.List.{get_or-replicate, length-replicate}
 use Rattle.std.proofs.lemmas.Bool.{le-ltb}
 use Rattle.sequencer.specs.Sequencer.{Sequencing}
-use Rattle.multi.specs.Windows.{open_fresh}
+use Rattle.multi.proofs.Windows.{open_fresh}
 use Rattle.multi.proofs.MultiSequencer.fresh.Goals as goal
 
 pub invariant_of-result : goal.invariant_of-result

@@ -2,15 +2,15 @@ use Rattle.std.proofs.Common.{◌≡◌, ℕ, ◌+◌, ◌-◌, ◌*◌, ◌<◌
 use Rattle.events.specs.Refusals.{accepted}
 use Rattle.multi.specs.Rounds.{open_by, rounds_after}
 use Rattle.sequencer.specs.Sequencer.{Left}
-use Rattle.multi.specs.Multis.{publish_accepted, publish_window}
-use Rattle.multi.specs.Windows.{after_length, rounds_claimed}
+use Rattle.multi.proofs.Multis.{publish_accepted, publish_window}
+use Rattle.multi.proofs.Windows.{after_length, rounds_claimed}
 use Rattle.multi.proofs.MultiSequencer.publish.Goals as goal
 
 pub publish_rounds-requires : goal.publish_rounds-requires
 publish_rounds-requires c =
     let m = c.args.self.now in
     let window = publish_window m.slots m.start m.next m.rounds c.args.lo c.args.hi c.if-not-all_open.ensures in
-    record { le_slots = m.some; slots_bound = m.most; lo_le_hi = omega arith; hi_bound = omega (arith, m.bounded) }
+    record { some = m.some; most = m.most; rising = omega arith; bounded = omega (arith, m.bounded) }
 
 pub invariant_of-self : goal.invariant_of-self
 invariant_of-self c =

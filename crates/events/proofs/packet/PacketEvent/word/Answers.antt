@@ -1,5 +1,5 @@
 use Rattle.std.proofs.Common.{◌≡◌, ◌-◌, ◌<◌, ◌≤◌, min, ◌∙◌, arith, rules}
-use Rattle.events.specs.Bytes.{word_within, word_past}
+use Rattle.events.proofs.Bytes.{word_within, word_past}
 use Rattle.events.proofs.packet.PacketEvent.word.Goals as goal
 
 pub returns-in_default : goal.returns-in_default

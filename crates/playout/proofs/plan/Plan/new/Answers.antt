@@ -1,5 +1,5 @@
 use Rattle.std.proofs.Common.{◌≡◌, suc, ◌+◌, ◌-◌, ◌/◌, ◌^◌, true, false, ◌&&◌, eqb, length, get_or, drop, set, sym, ap, ◌∙◌, subst, add-one, arith}
-use Rattle.events.specs.Bytes.{front_more}
+use Rattle.events.proofs.Bytes.{front_more}
 use Rattle.std.proofs.lemmas.List.{at_drop_more}
 use Rattle.std.proofs.lemmas.Bool.{eq-eqb, ne_eqb}
 use Rattle.std.proofs.lemmas.Bool.Decides.{nat_tests}

@@ -8,6 +8,7 @@ use Rattle.std.proofs.lemmas.List.{get_or-set_same, get_or-set_other, length-set
 use Rattle.std.proofs.lemmas.Bool.{cases_lt, eq-eqb, eqb-false, eqb-true, ne_eqb}
 use Rattle.std.proofs.lemmas.Bool.Decides.{nat_tests}
 use Rattle.multi.specs.Rounds.{oldest, open_by, round_of, rounds_after}
+use Rattle.multi.specs.Within.{open_below, open_past}
 use Rattle.sequencer.specs.Sequencer.{between}
 use Rattle.sequencer.proofs.Sets.{between_below, between_in, between_past}
 
@@ -18,13 +19,6 @@ and_true false = refl
 and_false : (b : Bool) → (b && false) ≡ false
 and_false true = refl
 and_false false = refl
-
--- outside the window nothing is open
-pub open_below : (slots start next : ℕ) (rounds : List ℕ) (s : ℕ) → s < oldest slots start next → open_by slots start next rounds s ≡ false
-open_below slots start next rounds s h = grind (arith, nat_tests)
-
-pub open_past : (slots start next : ℕ) (rounds : List ℕ) (s : ℕ) → next ≤ s → open_by slots start next rounds s ≡ false
-open_past slots start next rounds s h = grind (arith, nat_tests)
 
 -- a sequence that was not claimed has not its own round in its slot
 pub unclaimed : (slots next r s : ℕ) → 1 ≤ slots → r * slots + s % slots < next + slots → next ≤ s → r ≢ round_of slots s

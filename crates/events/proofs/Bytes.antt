@@ -25,6 +25,3 @@ pub word_past : (a b : ℕ) (bytes : List ℕ) (n k : ℕ) → 2 ≤ k → n ≤
 word_past a b bytes n zero low h = absurd (omega arith)
 word_past a b bytes n (suc zero) low h = absurd (omega arith)
 word_past a b bytes n (suc (suc j)) low h = sym (get_or_past (take n bytes) j 0 (omega (arith, length-take n bytes)))
-
-pub words_few : (a b n : ℕ) (bytes : List ℕ) → n ≤ 64 → length (a ∷ b ∷ take n bytes) ≤ 66
-words_few a b n bytes h = omega (arith, length-take n bytes)

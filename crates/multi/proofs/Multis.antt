@@ -8,18 +8,8 @@ use Rattle.std.proofs.lemmas.Bool.Decides.{nat_tests}
 use Rattle.multi.specs.Rounds.{oldest, open_by, rounds_after}
 use Rattle.sequencer.specs.Sequencer.{Left, Sequencing, all_from, claim_answer, claimed, first_open, grown, least_from, publish_answer, published, shrunk, some_below}
 use Rattle.sequencer.proofs.Sets.{all_at, all_but, least_here, least_none, least_on, none_below, some_fewer, some_more, some_none}
-use Rattle.multi.specs.Windows.{open_below, open_claimed, open_past, open_published}
-
-pub open_window : (slots start next : ℕ) (rounds : List ℕ) (s : ℕ) → open_by slots start next rounds s ≡ true → (oldest slots start next ≤ s) × (s < next)
-open_window slots start next rounds s e = (low (cases_lt s (oldest slots start next)), high (cases_lt s next))
-  where
-    low : (s < oldest slots start next) ⊎ (oldest slots start next ≤ s) → oldest slots start next ≤ s
-    low (inl below) = absurd (true≢false (sym e ∙ open_below slots start next rounds s below))
-    low (inr h) = h
-
-    high : (s < next) ⊎ (next ≤ s) → s < next
-    high (inl h) = h
-    high (inr past) = absurd (true≢false (sym e ∙ open_past slots start next rounds s past))
+use Rattle.multi.proofs.Windows.{open_claimed, open_published}
+use Rattle.multi.specs.Within.{open_below, open_window}
 
 module _ (slots start next : ℕ) (rounds : List ℕ) where
   abbrev pub q : Sequencing
