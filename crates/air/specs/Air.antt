@@ -1,5 +1,5 @@
 -- Air, for cues: what each channel shows. Assumes nothing.
-use Rattle.std.specs.Prelude.{ℕ, suc, ◌+◌, ◌-◌, ◌*◌, ◌/◌, ◌%◌, Bool, true, false, cond, List, [], ◌∷◌, map, replicate, Some, None, Option, ◌==◌, nat_lt, slice_index, slice_set}
+use Rattle.std.specs.Prelude.{ℕ, suc, ◌+◌, ◌-◌, ◌*◌, ◌/◌, ◌%◌, Bool, true, false, cond, List, ◌∷◌, map, replicate, Some, None, Option, ◌==◌, nat_lt, slice_index, slice_set}
 use Rattle.cue_stages.specs.Cues.{channel_of, action_of, item_of}
 use Rattle.stages.specs.Meaning.{Meaning, one_more}
 use Rattle.air.specs.declared.Air.{Air}

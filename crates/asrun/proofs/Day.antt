@@ -1,5 +1,5 @@
 -- The day's plan and bank are never refused, and leave what the record is written from. Assumes nothing.
-use Rattle.std.proofs.Common.{◌≡◌, ℕ, ◌^◌, ◌≤◌, true, false, List, [], ◌∷◌, ◌++◌, map, length, get_or, sym, ap, ◌∙◌, append_assoc, arith}
+use Rattle.std.proofs.Common.{◌≡◌, ℕ, ◌^◌, ◌≤◌, List, [], ◌∷◌, ◌++◌, map, length, get_or, sym, ap, ◌∙◌, arith}
 use Rattle.events.specs.Refusals.{Reply, accepted, refused, left}
 use Rattle.bank.specs.Bank.{figures_of}
 use Rattle.playout.specs.InOrder.{Played, played, played_answer, row_of, stages_after}

@@ -1,11 +1,11 @@
 -- What a cue does to the figures of Check. Assumes nothing.
-use Rattle.std.proofs.Common.{◌≡◌, ℕ, suc, ◌+◌, ◌-◌, ◌*◌, ◌/◌, ◌%◌, ◌≤◌, Bool, true, false, cond, eqb, ltb, List, [], ◌∷◌, map, get_or, set, Some, None, Option, sym, refl, ap, ◌∙◌, arith}
-use Rattle.std.proofs.lemmas.List.{map-set, set-get_or}
+use Rattle.std.proofs.Common.{◌≡◌, ℕ, suc, ◌+◌, false, cond, eqb, List, ◌∷◌, map, get_or, set, Some, Option, sym, refl, ap, ◌∙◌, arith}
+use Rattle.std.proofs.lemmas.List.{map-set}
 use Rattle.std.proofs.lemmas.Bool.Decides.{nat_tests}
 use Rattle.cue_stages.specs.Check.{check_grow, check_mark, last_figure, verdict_mark}
 use Rattle.cue_stages.specs.declared.check.Verdict.{Verdict}
 use Rattle.cue_stages.specs.declared.check.Verdict.TheVariants.{Good, NoSuchChannel, NoSuchAction, NoSuchFrame, Backwards}
-use Rattle.cue_stages.specs.Cues.{channel_of, action_of, item_of, frame_of}
+use Rattle.cue_stages.specs.Cues.{channel_of, frame_of}
 use Rattle.stages.specs.Meaning.{one_more}
 
 abbrev check_way : List ℕ → List ℕ → ℕ → List ℕ

@@ -1,5 +1,5 @@
 -- A table kept by its figures. Assumes nothing.
-use Rattle.std.proofs.Common.{◌≡◌, ℕ, zero, suc, ◌≤◌, List, [], ◌∷◌, map, length, get_or, sym, refl, ◌∙◌, arith}
+use Rattle.std.proofs.Common.{◌≡◌, ℕ, zero, suc, ◌≤◌, List, [], ◌∷◌, map, length, get_or, sym, refl, arith}
 use Rattle.std.proofs.lemmas.List.{length-map, get_or_past}
 
 -- the figure of an entry, also past the last if the default has the default's figure

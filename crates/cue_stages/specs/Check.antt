@@ -1,5 +1,5 @@
 -- Check, for cues: whether a cue can be played, and comes in order. Assumes nothing.
-use Rattle.std.specs.Prelude.{ℕ, suc, ◌+◌, cond, List, [], ◌∷◌, map, replicate, Some, None, Option, ◌==◌, nat_lt, slice_index, slice_set}
+use Rattle.std.specs.Prelude.{ℕ, suc, ◌+◌, cond, List, ◌∷◌, map, replicate, Some, None, Option, ◌==◌, nat_lt, slice_index, slice_set}
 use Rattle.cue_stages.specs.Cues.{channel_of, action_of, frame_of}
 use Rattle.stages.specs.Meaning.{Meaning, one_more}
 use Rattle.cue_stages.specs.declared.check.Check.{Check}

@@ -1,5 +1,5 @@
 -- What was read, where something was. Assumes nothing.
-use Rattle.std.proofs.Common.{◌≡◌, ℕ, ◌+◌, Bool, true, false, cond, leb, List, length, Some, None, Option, sym, ap, ◌∙◌, arith}
+use Rattle.std.proofs.Common.{◌≡◌, ℕ, ◌+◌, Bool, true, false, cond, leb, List, length, Some, None, arith}
 use Rattle.events.specs.Records.{within}
 
 pub within_some : {A : Type 0} (bytes : List ℕ) (at size : ℕ) (value read : A) → Some read ≡ within bytes at size value → read ≡ value

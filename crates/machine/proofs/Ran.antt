@@ -12,7 +12,6 @@ use Rattle.ring.specs.Ring.{is_mark, mark_at, marked, place}
 use Rattle.stages.specs.Meaning.{Given, Meaning, after, mark_of}
 use Rattle.machine.specs.Calls.{History, committed, handled, other, published, wrote, ◌▸◌}
 use Rattle.machine.specs.History.{gave, received, words_of}
-use Rattle.machine.specs.Machine.{given}
 use Rattle.machine.proofs.Passing.{goes_on, mark_in}
 
 -- the first n events have the words that the history has

@@ -13,7 +13,7 @@ use Rattle.ring.specs.Ring.{marked, written}
 use Rattle.sequencer.specs.Sequencer.{Sequencing, all_from, claim_answer, grown, publish_answer, shrunk, some_below, unclaimed}
 use Rattle.stages.specs.Meaning.{Meaning}
 use Rattle.machine.specs.Calls.{Call, Course, History, called, claim, commit, committed, entered, gate, handle, handled, look, made, onward, onwards, other, publish, published, write, wrote, ◌▸◌}
-use Rattle.machine.specs.Law.{Sound, begun}
+use Rattle.machine.specs.Law.{Sound}
 use Rattle.machine.specs.Machine.{Room, World, claim_of, fits, given, new_gate, new_seen, on_claim, on_commit, on_gate, on_handle, on_look, on_publish, on_write, place_of, room_made, side_of, with_place, with_room, with_side}
 use Rattle.machine.specs.declared.Claim.{Claim}
 use Rattle.machine.specs.declared.Producer.{Producer}

@@ -6,7 +6,7 @@ use Rattle.std.proofs.lemmas.List.FromFn.{get_or-map-range_with_len}
 use Rattle.std.proofs.lemmas.List.{get_or-set_other, get_or-set_same, length-set}
 use Rattle.std.proofs.lemmas.Bool.{and_parts, cases_lt, eqb-false, eqb-true, ltb-false, not-false, or_parts, true≢false}
 use Rattle.std.specs.List.{range_with_len}
-use Rattle.events.specs.Refusals.{Reply, accepted, refused}
+use Rattle.events.specs.Refusals.{Reply, accepted}
 use Rattle.bank.specs.Bank.{handled_by, mark_by, nobody}
 use Rattle.playout.specs.InOrder.{given_in, passed, stages_after}
 use Rattle.playout.specs.Plan.{Layout}
@@ -16,14 +16,14 @@ use Rattle.ring.specs.Ring.{mark_at, marked, row_at}
 use Rattle.sequencer.specs.Sequencer.{Sequencing, claim_answer, grown, some_below}
 use Rattle.stages.specs.Marks.{names, shown}
 use Rattle.stages.specs.Meaning.{Given, Meaning, after}
-use Rattle.machine.specs.Calls.{Call, History, claim, committed, gate, handled, made, other, published, wrote, ◌▸◌}
+use Rattle.machine.specs.Calls.{Call, History, committed, handled, other, published, wrote, ◌▸◌}
 use Rattle.machine.specs.History.{Each, Published, words_of}
-use Rattle.machine.specs.Law.{HandlesAfter, Spares, WritesOnce, begun}
+use Rattle.machine.specs.Law.{HandlesAfter, Spares, WritesOnce}
 use Rattle.machine.specs.Machine.{Room, World, fits, given, new_gate, new_seen, place_of, side_of, with_place, with_room, with_side}
 use Rattle.machine.specs.declared.Claim.{Claim}
 use Rattle.machine.specs.declared.Progress.{Progress}
 use Rattle.machine.proofs.Basics.{Passed, passed_tests, set_elim}
-use Rattle.machine.proofs.Firm.{Firm, claim_kept, gate_kept, may_gate, may_look, moved, nothing, Unfilled, own_claim, publish_kept, publish_room, reach_below_lem, within_places, write_kept, write_room, zeros}
+use Rattle.machine.proofs.Firm.{Firm, claim_kept, gate_kept, may_gate, may_look, moved, Unfilled, own_claim, publish_kept, publish_room, reach_below_lem, within_places, write_kept, write_room, zeros}
 use Rattle.machine.proofs.Passing.{row_stays}
 use Rattle.machine.proofs.Ran.{Agrees, Ran, ran_claim, ran_commit, ran_here, ran_other, ran_publish, ran_there, ran_write}
 use Rattle.machine.proofs.Told.{Told, claim_told, commit_told, gate_told, handle_entry, moved_told, other_entry, publish_told, slot_of, write_told}

@@ -1,13 +1,13 @@
 -- The calls of a sequencer that keeps a round a slot. Assumes nothing.
-use Rattle.std.specs.Prelude.{◌≡◌, ℕ, zero, suc, ◌+◌, ◌-◌, ◌*◌, ◌^◌, ◌<◌, ◌≤◌, max, Bool, true, false, cond, not, ◌&&◌, ◌||◌, ◌⊎◌, List, length, nat_lt, slice_index, refl}
+use Rattle.std.specs.Prelude.{◌≡◌, ℕ, zero, suc, ◌+◌, ◌-◌, ◌*◌, ◌^◌, ◌<◌, ◌≤◌, Bool, true, false, cond, ◌&&◌, ◌⊎◌, List, length, nat_lt, slice_index}
 use Rattle.std.proofs.Math.Path.{sym, ap}
-use Rattle.std.proofs.Common.{◌∙◌, inl, inr, add-one, arith}
+use Rattle.std.proofs.Common.{◌∙◌, inl, inr, arith}
 use Rattle.events.specs.Refusals.{Reply, accepted, left, refused}
-use Rattle.std.proofs.lemmas.Bool.{and_parts, cases_lt, lt-ltb, le-ltb, ltb-true, true≢false}
+use Rattle.std.proofs.lemmas.Bool.{and_parts, cases_lt, lt-ltb, le-ltb, ltb-true}
 use Rattle.std.proofs.lemmas.Bool.Decides.{nat_tests}
 use Rattle.multi.specs.Rounds.{oldest, open_by, rounds_after}
 use Rattle.sequencer.specs.Sequencer.{Left, Sequencing, all_from, claim_answer, claimed, first_open, grown, least_from, publish_answer, published, shrunk, some_below}
-use Rattle.sequencer.proofs.Sets.{all_at, all_but, least_here, least_none, least_on, none_below, some_fewer, some_more, some_none}
+use Rattle.sequencer.proofs.Sets.{all_at, least_here, least_none, least_on, none_below}
 use Rattle.multi.proofs.Windows.{open_claimed, open_published}
 use Rattle.multi.specs.Within.{open_below, open_window}
 

@@ -1,5 +1,5 @@
 -- One event record more, a fault in one, and the end. Assumes nothing.
-use Rattle.std.proofs.Common.{◌≡◌, ℕ, zero, suc, ◌+◌, ◌-◌, ◌*◌, ◌<◌, ◌≤◌, List, sym, refl, ap, ◌∙◌, add-one, arith}
+use Rattle.std.proofs.Common.{◌≡◌, ℕ, suc, ◌+◌, ◌-◌, ◌*◌, ◌<◌, ◌≤◌, List, sym, ap, ◌∙◌, add-one, arith}
 use Rattle.runfile.specs.EventRecords.{checked_from}
 use Rattle.runfile.specs.Faults.{Read, and_then, bad, good}
 

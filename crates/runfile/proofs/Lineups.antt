@@ -1,5 +1,5 @@
 -- One stage record more, a fault in one, and the end. Assumes nothing.
-use Rattle.std.proofs.Common.{◌≡◌, ℕ, zero, suc, ◌+◌, ◌-◌, ◌*◌, ◌<◌, ◌≤◌, List, set, sym, refl, ap, ◌∙◌, add-one, arith}
+use Rattle.std.proofs.Common.{◌≡◌, ℕ, suc, ◌+◌, ◌-◌, ◌*◌, ◌<◌, ◌≤◌, List, set, sym, ap, ◌∙◌, add-one, arith}
 use Rattle.runfile.specs.Faults.{Read, and_then, bad, good}
 use Rattle.runfile.specs.Lineup.{lineup_from, stage_at}
 use Rattle.runfile.specs.declared.header.EventKind.{EventKind}

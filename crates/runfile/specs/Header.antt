@@ -1,5 +1,5 @@
 -- The header of a run file. Fields are 32-bit numbers, and the start a 64-bit one. Assumes nothing.
-use Rattle.std.specs.Prelude.{ℕ, ◌+◌, ◌*◌, ◌^◌, cond, not, ◌&&◌, ◌||◌, List, length, ◌==◌, nat_lt}
+use Rattle.std.specs.Prelude.{ℕ, ◌+◌, ◌*◌, ◌^◌, cond, not, ◌||◌, List, length, ◌==◌, nat_lt}
 use Rattle.events.specs.Records.{u32_at, u64_at}
 use Rattle.limits.specs.Capacity.{is_capacity}
 use Rattle.runfile.specs.Faults.{Read, and_then, bad, good, unless_bad}

@@ -1,5 +1,5 @@
 -- Stage records: four bytes each, kind, mask, tested stage, 0. Assumes nothing.
-use Rattle.std.specs.Prelude.{ℕ, zero, suc, ◌+◌, ◌-◌, ◌*◌, ◌/◌, ◌^◌, Bool, true, false, cond, not, ◌&&◌, ◌||◌, List, replicate, Some, None, Option, ◌==◌, nat_le, slice_index, slice_index_or, slice_set}
+use Rattle.std.specs.Prelude.{ℕ, zero, suc, ◌+◌, ◌-◌, ◌*◌, ◌/◌, ◌^◌, Bool, cond, not, ◌||◌, List, replicate, Some, None, Option, ◌==◌, nat_le, slice_index, slice_index_or, slice_set}
 use Rattle.playout.specs.Reach.{reach_of}
 use Rattle.stages.specs.Marks.{names}
 use Rattle.runfile.specs.Faults.{Read, and_then, bad, good, unless_bad}

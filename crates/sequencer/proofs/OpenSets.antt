@@ -1,12 +1,11 @@
 -- The laws over lists of calls. Assumes nothing.
-use Rattle.std.proofs.Common.{◌≡◌, ℕ, suc, ◌+◌, ◌-◌, ◌^◌, ◌<◌, ◌≤◌, Bool, true, false, cond, not, ◌&&◌, ◌||◌, eqb, ltb, leb, ◌⊎◌, List, [], ◌∷◌, sym, refl, ap, ◌∙◌, inl, inr, arith}
+use Rattle.std.proofs.Common.{◌≡◌, ℕ, ◌+◌, ◌-◌, ◌^◌, ◌<◌, ◌≤◌, Bool, true, false, cond, not, ◌&&◌, ◌||◌, eqb, ltb, leb, ◌⊎◌, List, [], ◌∷◌, sym, refl, ap, ◌∙◌, inl, inr, arith}
 use Rattle.limits.specs.Capacity.{is_capacity}
 use Rattle.events.specs.Refusals.{Reply, accepted, left, refused}
 use Rattle.std.proofs.lemmas.Bool.{true≢false}
-use Rattle.std.proofs.lemmas.Bool.Decides.{nat_tests}
 use Rattle.sequencer.specs.Laws.{Claimed, Freed, Fresh, OpenSet, Published, SameAnswers, Took, Twins}
 use Rattle.sequencer.specs.Runs.{Entry, after_steps, history, stepped}
-use Rattle.sequencer.specs.Sequencer.{Sequencing, all_from, between, claim_answer, claimed, fresh, grown, publish_answer, published, shrunk, some_below}
+use Rattle.sequencer.specs.Sequencer.{Sequencing, all_from, between, claim_answer, fresh, grown, publish_answer, shrunk, some_below}
 use Rattle.sequencer.specs.declared.run.Step.{Step}
 use Rattle.sequencer.specs.declared.run.Step.TheVariants.{Claim, Publish, First}
 use Rattle.sequencer.proofs.Sets.{all_at, between_in, between_parts}

@@ -1,10 +1,10 @@
 -- One call more of a list. Assumes nothing.
-use Rattle.std.proofs.Common.{◌≡◌, ℕ, suc, ◌+◌, ◌<◌, Bool, true, false, cond, ◌&&◌, ◌⊎◌, List, [], ◌∷◌, length, get_or, drop, is_ok, Ok, Err, Result, sym, refl, ap, ◌∙◌, inl, inr, arith}
+use Rattle.std.proofs.Common.{◌≡◌, ℕ, suc, ◌+◌, ◌<◌, Bool, true, false, cond, ◌&&◌, List, [], ◌∷◌, length, get_or, drop, is_ok, Ok, Err, Result, sym, refl, ap, ◌∙◌, arith}
 use Rattle.events.specs.Refusals.{Reply, accepted, refused, reply}
 use Rattle.events.specs.declared.refusal.Refusal.{Refusal}
 use Rattle.std.proofs.lemmas.List.{at_drop_more}
 use Rattle.std.proofs.lemmas.Bool.{eq-eqb}
-use Rattle.sequencer.specs.Runs.{Entry, accepted_in, after_steps, alike, history, one_if, same_reply, stepped}
+use Rattle.sequencer.specs.Runs.{accepted_in, after_steps, alike, history, one_if, same_reply, stepped}
 use Rattle.sequencer.specs.Sequencer.{Left, Sequencing}
 use Rattle.sequencer.specs.declared.run.Step.{Step}
 

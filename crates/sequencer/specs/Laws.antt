@@ -1,5 +1,5 @@
 -- Laws of every sequencer, over any list of calls with any arguments. Assumes nothing.
-use Rattle.std.specs.Prelude.{◌≡◌, ℕ, ◌+◌, ◌<◌, ◌≤◌, Bool, true, ◌⊎◌, List, [], ◌∷◌}
+use Rattle.std.specs.Prelude.{◌≡◌, ℕ, ◌+◌, ◌<◌, ◌≤◌, true, ◌⊎◌, List, [], ◌∷◌}
 use Rattle.events.specs.Refusals.{Reply, accepted, refused}
 use Rattle.sequencer.specs.Runs.{Entry, after_steps, history}
 use Rattle.sequencer.specs.Sequencer.{Sequencing, fresh}

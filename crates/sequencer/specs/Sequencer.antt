@@ -1,5 +1,5 @@
 -- What a sequencer means, and what each of its calls answers and does. Assumes nothing.
-use Rattle.std.specs.Prelude.{ℕ, zero, suc, ◌+◌, ◌-◌, ◌^◌, Bool, true, false, cond, not, ◌&&◌, ◌||◌, List, [], ◌∷◌, ◌==◌, nat_le, nat_lt}
+use Rattle.std.specs.Prelude.{ℕ, zero, suc, ◌+◌, ◌-◌, ◌^◌, Bool, true, false, cond, not, ◌&&◌, ◌||◌, [], ◌∷◌, ◌==◌, nat_le, nat_lt}
 use Rattle.limits.specs.Capacity.{is_capacity}
 use Rattle.events.specs.Refusals.{Reply, accepted, left, unless}
 

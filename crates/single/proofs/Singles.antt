@@ -1,10 +1,10 @@
 -- The open sequences of a sequencer that keeps one cursor: those between the cursor and next. Assumes nothing.
-use Rattle.std.proofs.Common.{◌≡◌, ℕ, suc, ◌+◌, ◌-◌, ◌^◌, ◌<◌, ◌≤◌, min, max, Bool, true, false, cond, not, ◌&&◌, ◌||◌, eqb, ltb, leb, ◌⊎◌, sym, refl, ap, ◌∙◌, inl, inr, arith}
+use Rattle.std.proofs.Common.{◌≡◌, ℕ, ◌+◌, ◌-◌, ◌^◌, ◌<◌, ◌≤◌, min, max, Bool, true, false, cond, not, ◌&&◌, ◌||◌, ltb, ◌⊎◌, sym, ap, ◌∙◌, inl, inr, arith}
 use mathlib.Core.Path.{fun_ext}
 use Rattle.events.specs.Refusals.{Reply, accepted, left, refused}
 use Rattle.std.proofs.lemmas.Bool.{cases_lt, lt-ltb, le-ltb}
 use Rattle.std.proofs.lemmas.Bool.Decides.{nat_tests}
-use Rattle.sequencer.specs.Sequencer.{Left, Sequencing, all_from, between, claim_answer, claimed, first_open, grown, least_from, publish_answer, published, shrunk, some_below}
+use Rattle.sequencer.specs.Sequencer.{Left, Sequencing, between, claim_answer, claimed, first_open, grown, least_from, publish_answer, published, shrunk, some_below}
 use Rattle.sequencer.proofs.Sets.{all_but, all_in, between_below, between_in, between_past, least_is, some_has, some_none}
 
 -- one is open below b just if the cursor is

@@ -1,5 +1,5 @@
 -- A sieve over a stage: it lets through only the events that the tested stage marked 0. Assumes nothing.
-use Rattle.std.specs.Prelude.{ℕ, Bool, cond, ◌||◌, List, ◌==◌, nat_lt, slice_index}
+use Rattle.std.specs.Prelude.{ℕ, Bool, cond, ◌||◌, ◌==◌, nat_lt, slice_index}
 use Rattle.stages.specs.Meaning.{Given, Meaning}
 
 -- The event passes if the tested stage's mark is 0, or if there is no such stage.

@@ -1,5 +1,5 @@
 -- Worked rows: what the definitions give on each side of a line. Assumes nothing.
-use Rattle.std.specs.Prelude.{◌≡◌, ℕ, ◌-◌, ◌^◌, Bool, false, List, [], ◌∷◌, ◌++◌, take, replicate, slice_index}
+use Rattle.std.specs.Prelude.{◌≡◌, ℕ, ◌-◌, ◌^◌, Bool, List, [], ◌∷◌, ◌++◌, take, replicate, slice_index}
 use Rattle.events.specs.Refusals.{Reply, accepted, refused}
 use Rattle.events.specs.Words.{blank_cue, cue_words, made_packet}
 use Rattle.air.specs.Air.{air, air_figures, fresh_air}

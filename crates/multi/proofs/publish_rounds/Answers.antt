@@ -1,4 +1,4 @@
-use Rattle.std.proofs.Common.{◌≡◌, suc, ◌+◌, ◌-◌, ◌%◌, set, sym, ap, ◌∙◌, arith}
+use Rattle.std.proofs.Common.{◌≡◌, suc, ◌+◌, ◌-◌, ◌%◌, set, ap, ◌∙◌, arith}
 use Rattle.multi.specs.Rounds.{round_of, rounds_after}
 use Rattle.multi.proofs.Windows.{after_more, after_none}
 use Rattle.multi.proofs.publish_rounds.Goals as goal

@@ -1,4 +1,4 @@
-use Rattle.std.proofs.Common.{◌≡◌, ◌++◌, map, ap, ◌∙◌, arith}
+use Rattle.std.proofs.Common.{◌++◌, map, ap, ◌∙◌, arith}
 use Rattle.events.specs.Words.{cue_words}
 use Rattle.asrun.specs.AsRun.{record_of}
 use Rattle.asrun.proofs.report.as_run.Goals as goal

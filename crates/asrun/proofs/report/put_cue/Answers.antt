@@ -1,4 +1,4 @@
-use Rattle.std.proofs.Common.{◌≡◌, [], ◌∷◌, ◌++◌, get_or, string_bytes, decimal, ap, ◌∙◌, append_assoc}
+use Rattle.std.proofs.Common.{[], ◌∷◌, ◌++◌, get_or, decimal, ap, ◌∙◌, append_assoc}
 use Rattle.asrun.proofs.report.put_cue.Goals as goal
 
 pub returns : goal.returns

@@ -1,4 +1,4 @@
-use Rattle.std.proofs.Common.{◌≡◌, ℕ, List, [], ◌∷◌, ◌++◌, map, length, string_bytes, sym, refl, ap, ◌∙◌, append_assoc, arith}
+use Rattle.std.proofs.Common.{◌≡◌, ℕ, List, ◌++◌, map, length, string_bytes, sym, refl, ap, ◌∙◌, append_assoc, arith}
 use Rattle.events.specs.Refusals.{accepted}
 use Rattle.events.specs.Words.{cue_words}
 use Rattle.playout.specs.Plan.{layout}

@@ -1,4 +1,4 @@
-use Rattle.std.proofs.Common.{◌≡◌, ◌-◌, ◌<◌, ◌≤◌, max, false, ◌&&◌, ◌⊎◌, sym, ap, ◌∙◌, inl, inr, ⊎_elim, arith}
+use Rattle.std.proofs.Common.{◌≡◌, ◌-◌, max, sym, ap, ◌∙◌, ⊎_elim, arith}
 use Rattle.multi.specs.Rounds.{open_by}
 use Rattle.sequencer.specs.Sequencer.{all_from}
 use Rattle.sequencer.proofs.Sets.{all_empty, all_false, all_next, all_none, all_true}

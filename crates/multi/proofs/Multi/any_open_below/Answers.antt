@@ -1,4 +1,4 @@
-use Rattle.std.proofs.Common.{sym, ◌∙◌, arith}
+use Rattle.std.proofs.Common.{sym, arith}
 use Rattle.multi.specs.Rounds.{open_by}
 use Rattle.sequencer.proofs.Sets.{some_fewer, some_has, some_next, some_none}
 use Rattle.multi.specs.Within.{open_below}

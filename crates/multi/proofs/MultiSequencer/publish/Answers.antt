@@ -1,6 +1,6 @@
-use Rattle.std.proofs.Common.{◌≡◌, ℕ, ◌+◌, ◌-◌, ◌*◌, ◌<◌, Bool, false, List, length, get_or, sym, ap, ◌∙◌, subst, arith}
+use Rattle.std.proofs.Common.{ℕ, ◌+◌, ◌-◌, ◌*◌, ◌<◌, false, List, length, get_or, sym, ap, ◌∙◌, subst, arith}
 use Rattle.events.specs.Refusals.{accepted}
-use Rattle.multi.specs.Rounds.{open_by, rounds_after}
+use Rattle.multi.specs.Rounds.{open_by}
 use Rattle.sequencer.specs.Sequencer.{Left}
 use Rattle.multi.proofs.Multis.{publish_accepted, publish_window}
 use Rattle.multi.proofs.Windows.{after_length, rounds_claimed}

@@ -1,4 +1,4 @@
-use Rattle.std.proofs.Common.{◌≡◌, ◌-◌, ◌<◌, ◌≤◌, min, ◌∙◌, arith, rules}
+use Rattle.std.proofs.Common.{◌≤◌, min, ◌∙◌, arith, rules}
 use Rattle.events.proofs.Bytes.{word_within, word_past}
 use Rattle.events.proofs.packet.PacketEvent.word.Goals as goal
 
