@@ -6,13 +6,16 @@ mod report;
 
 use report::as_run;
 use std::io::Read;
+use std::process::ExitCode;
 
-fn main(rt: HostRuntime) -> anyhow::Result<()> {
-    let result = run(&rt);
-    if let Err(fault) = &result {
-        let _ = eprintln!(rt; "asrun: {fault}");
+fn main(rt: HostRuntime) -> ExitCode {
+    match run(&rt) {
+        Ok(()) => ExitCode::SUCCESS,
+        Err(fault) => {
+            let _ = eprintln!(rt; "asrun: {fault}");
+            ExitCode::FAILURE
+        }
     }
-    result
 }
 
 fn run(rt: &HostRuntime) -> anyhow::Result<()> {

@@ -2,8 +2,6 @@
 ghost use Rattle.std.specs.Prelude.{◌≡◌, ◌-◌, ◌≤◌, ◌++◌, take, replicate};
 ghost use Rattle.events.specs.Refusals.{reply};
 ghost use Rattle.events.specs.Words.{packet_words, blank_packet, made_packet};
-ghost use Prim.Native.Nat;
-ghost use Rattle.std.proofs.Common.{arith};
 ghost use Rattle.events.specs.Fewness.{words_few};
 
 use crate::event::Event;
@@ -51,7 +49,7 @@ impl Event for Packet {
 
     ghost blank = { blank_packet };
 
-    ghost few = { λ p. words_few (Nat.min p.channel 15) (Nat.min p.length 64) (Nat.min p.length 64) p.bytes (omega arith) };
+    ghost few = { words_few };
 
     fn count(&self) -> usize {
         2 + self.length.min(64) as usize
