@@ -1,5 +1,5 @@
--- That a packet has few words, which its law cites: an `impl` may cite only what stands here. A lemma, with its proof; nothing to
--- believe. Assumes nothing.
+-- That a packet has few words, which its law cites: an `impl` may cite of its own crate only what stands in specs/. A lemma,
+-- with its proof; nothing to believe. Assumes nothing.
 use Rattle.std.specs.Prelude.{◌≤◌, length, min}
 use Rattle.std.proofs.Common.{arith}
 use Rattle.std.proofs.lemmas.List.{length-take}

@@ -1,4 +1,4 @@
--- The one_after-another run, stage by stage: what a stage is given, and where it and its mark are found. Assumes nothing.
+-- The one-after-another run, stage by stage: what a stage is given, and where it and its mark are found. Assumes nothing.
 use Rattle.std.proofs.Common.{◌≡◌, ℕ, zero, suc, ◌+◌, ◌<◌, ◌≤◌, ◌⊎◌, List, length, get_or, sym, refl, ap, ◌∙◌, inl, inr, add-one, arith}
 use Rattle.std.proofs.lemmas.List.{get_or-set_other, get_or-set_same, length-set}
 use Rattle.std.proofs.lemmas.Bool.{cases_eq}

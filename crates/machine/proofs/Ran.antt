@@ -1,4 +1,4 @@
--- Every stage of a reached state stands where the one_after-another run leaves it after as many events. Assumes nothing.
+-- Every stage of a reached state stands where the one-after-another run leaves it after as many events. Assumes nothing.
 use Rattle.std.proofs.Common.{◌≡◌, ℕ, ◌+◌, ◌-◌, ◌*◌, ◌%◌, ◌<◌, ◌≤◌, Bool, true, false, cond, eqb, ltb, ◌⊎◌, List, [], ◌∷◌, ◌++◌, map, length, get_or, set, sym, refl, ap, ◌∙◌, inl, inr, mod-lt, arith}
 use Rattle.limits.proofs.Slots.{slot_apart}
 use Rattle.std.proofs.lemmas.List.FromFn.{map-range_with_len_more}

@@ -1,5 +1,5 @@
--- That what is open lies in the window below next, which the law of the sequencer cites: an `impl` may cite only what stands
--- here. Lemmas, with their proofs; nothing to believe. Assumes nothing.
+-- That what is open lies in the window below next, which the law of the sequencer cites: an `impl` may cite of its own crate
+-- only what stands in specs/. Lemmas, with their proofs; nothing to believe. Assumes nothing.
 use Rattle.std.specs.Prelude.{◌≡◌, ℕ, ◌<◌, ◌≤◌, ◌⊎◌, true, false, List}
 use Rattle.std.proofs.Common.{sym, ◌∙◌, inl, inr, arith}
 use Rattle.std.proofs.lemmas.Bool.{cases_lt, true≢false}

@@ -1,4 +1,4 @@
--- The steps of the one_after-another run. Assumes nothing.
+-- The steps of the one-after-another run. Assumes nothing.
 use Rattle.std.proofs.Common.{◌≡◌, ℕ, ◌+◌, ◌^◌, ◌<◌, ◌≤◌, min, Bool, true, false, cond, not, ◌||◌, eqb, ltb, List, [], ◌∷◌, map, length, get_or, set, replicate, sym, refl, ap, ◌∙◌, add-one, arith}
 use Rattle.events.specs.Refusals.{Reply, accepted, left, refused, unless}
 use Rattle.bank.specs.Bank.{handled_by, mark_by}
@@ -50,7 +50,7 @@ sizes_fit l size events rows e = go (not (eqb size l.stages) || not (eqb rows ev
     go false ea true eb e = let z : ◌≡◌ {A = ℕ} 0 1 = cc in absurd (omega arith)
     go false ea false eb e = (grind (arith, nat_tests), ltb-false (2 ^ 62) (l.start + events) eb)
 
-module _ (l : Layout) (bank : List Meaning) (events rows : List (List ℕ)) (size : ℕ) (tells-size : size ≡ min (length bank) 9) (few : l.stages ≤ 8) where
+module _ (l : Layout) (bank : List Meaning) (events rows : List (List ℕ)) (size : ℕ) (tells_size : size ≡ min (length bank) 9) (few : l.stages ≤ 8) where
   -- a size of 9 or more is no plan's
   same_answer : played_answer l size (length events) (length rows) ≡ played_answer l (length bank) (length events) (length rows)
   same_answer =

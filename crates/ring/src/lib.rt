@@ -2,7 +2,7 @@
 
 #![tactic(auto)]
 
-ghost use Rattle.std.specs.Prelude.{◌≡◌, ◌-◌, ◌^◌, ◌<◌, min, length, set, replicate, slice_set};
+ghost use Rattle.std.specs.Prelude.{◌≡◌, ◌-◌, ◌^◌, ◌<◌, min, length, replicate, slice_set};
 ghost use Rattle.events.specs.Refusals.{reply};
 ghost use Rattle.ring.specs.Ring.{checked, event_at, made_events, made_marks, mark_at, marked, place, row_at, written};
 ghost use Rattle.stages.specs.Marks.{shown};

@@ -64,7 +64,7 @@ header_of file =
     and_then (sequencer_of file) λ sequencer.
     and_then (producers_of file sequencer) λ producers.
     and_then (start_of file) λ start.
-    and_then (section_of file 24 stages 4) λ stageRecords.
+    and_then (section_of file 24 stages 4) λ stage_records.
     and_then (section_of file 28 (u32_at file 16) 4) λ steps.
     and_then (section_of file 32 (u32_at file 20) (event_size kind)) λ events.
-    good (record { kind = kind; capacity = capacity; sequencer = sequencer; producers = producers; start = start; stages = stageRecords; steps = steps; events = events })
+    good (record { kind = kind; capacity = capacity; sequencer = sequencer; producers = producers; start = start; stages = stage_records; steps = steps; events = events })
