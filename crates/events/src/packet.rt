@@ -2,7 +2,7 @@
 ghost use Rattle.std.specs.Prelude.{◌≡◌, ◌-◌, ◌≤◌, ◌++◌, take, replicate};
 ghost use Rattle.events.specs.Refusals.{reply};
 ghost use Rattle.events.specs.Words.{packet_words, blank_packet, made_packet};
-ghost use Rattle.events.specs.Fewness.{words_few};
+ghost use Rattle.events.specs.Fewness.{packet_few};
 
 use crate::event::Event;
 use crate::refusal::Refusal;
@@ -49,7 +49,7 @@ impl Event for Packet {
 
     ghost blank = { blank_packet };
 
-    ghost few = { words_few };
+    ghost few = { packet_few };
 
     fn count(&self) -> usize {
         2 + self.length.min(64) as usize
