@@ -38,9 +38,7 @@ fn front(text: &[u8; 64], n: usize) -> [u8; 64]
     ensures { result ≡ take n text.now ++ replicate (64 - n) 0 }
 {
     let mut bytes = [0; 64];
-    for i in 0..n {
-        bytes[i] = text[i];
-    }
+    bytes[..n].copy_from_slice(&text[..n]);
     bytes
 }
 
