@@ -21,7 +21,7 @@ in_mask-is_any masks j (suc n) h =
 -- a stage that is in a mask is in the mask of some stage
 pub mask_by : (masks : List ℕ) (j n : ℕ) → in_mask masks j n ≡ true → (i : ℕ) × (i < n) × (names (mask_of masks i) j ≡ true)
 unfolding in_mask
-mask_by masks j zero e = absurd (let z : ◌≡◌ {A = ℕ} 0 1 = cc in omega arith)
+mask_by masks j zero e = absurd cc
 mask_by masks j (suc n) e = go (or_cases (names (mask_of masks n) j) (in_mask masks j n) e) (mask_by masks j n)
   where
     go : (names (mask_of masks n) j ≡ true) ⊎ (in_mask masks j n ≡ true) → (in_mask masks j n ≡ true → (i : ℕ) × (i < n) × (names (mask_of masks i) j ≡ true)) → (i : ℕ) × (i < suc n) × (names (mask_of masks i) j ≡ true)

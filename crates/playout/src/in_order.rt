@@ -33,7 +33,7 @@ pub fn play_in_order<E: Event, B: Bank<E>>(
 // Whether a bank of this size and as many rows fit the plan and the events, and the sequences suffice.
 fn check_sizes(plan: &Plan, size: usize, events: usize, rows: usize) -> Result<(), Refusal>
     ensures answer { reply result ≡ played_answer (layout plan.now) size events rows }
-    ensures fits { OnOk result ((rows ≡ events) × ((layout plan.now).start + events ≤ 2 ^ 62)) }
+    ensures fits { OnOk result ((size ≡ (layout plan.now).stages) × (rows ≡ events) × ((layout plan.now).start + events ≤ 2 ^ 62)) }
 {
     if size != plan.stages() || rows != events {
         return Err(Refusal::SizeMismatch);
