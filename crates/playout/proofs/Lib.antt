@@ -1,4 +1,3 @@
 pub mod Gatings
 pub mod Masks
-pub mod Passes
 pub mod Reached

@@ -1,9 +1,10 @@
 -- The masks of a plan name only lower-numbered stages. Assumes nothing.
-use Rattle.std.proofs.Common.{◌≡◌, ℕ, zero, suc, ◌+◌, ◌-◌, ◌/◌, ◌^◌, ◌≤◌, true, eqb, List, [], ◌∷◌, ◌++◌, length, get_or, take, drop, replicate, sym, refl, ap, ◌∙◌, add-zero, arith}
+use Rattle.std.proofs.Common.{◌≡◌, ℕ, zero, suc, ◌+◌, ◌-◌, ◌/◌, ◌^◌, ◌≤◌, true, eqb, List, [], ◌∷◌, ◌++◌, length, get_or, replicate, sym, refl, ap, ◌∙◌, add-zero, add-one, ◌&&◌, arith}
 use native.Mathlib.Nat.{zero-div}
-use Rattle.std.proofs.lemmas.List.{take_all, at_drop_all, length-append, length-replicate}
+use Rattle.std.proofs.lemmas.List.{length-append, length-replicate}
 use Rattle.std.proofs.lemmas.Bool.{and_parts, eqb-true}
 use Rattle.stages.proofs.Masks.{names_below}
+use Rattle.std.specs.List.{enumerate_from, list_all}
 use Rattle.playout.specs.Plan.{lower}
 use Rattle.playout.specs.Reach.{mask_of, Ordered}
 
@@ -28,13 +29,11 @@ lower_ordered masks m h i j named =
     let e : 0 + i ≡ i = omega arith in
     names_below (mask_of (masks ++ replicate m 0) i) i j (ap (λ n. mask_of (masks ++ replicate m 0) i / 2 ^ n) (sym e) ∙ lower_at 0 masks m i h) named
 
--- all masks are stored
-pub stored_all : (all masks : List ℕ) (i : ℕ) → i ≡ length masks → all ≡ take i masks ++ replicate (8 - i) 0 → all ≡ masks ++ replicate (8 - length masks) 0
-stored_all all masks i e stored =
-    stored ∙ ap (λ n. take n masks ++ replicate (8 - n) 0) e ∙ ap (λ xs. xs ++ replicate (8 - length masks) 0) (take_all (length masks) masks (omega arith))
+-- the test, as one of each mask with its stage
+pub lower-is_all : (i : ℕ) (masks : List ℕ) → lower i masks ≡ list_all (λ p. eqb (p.1 / 2 ^ p.0) 0) (enumerate_from i masks)
+lower-is_all i [] = refl
+lower-is_all i (mask ∷ masks) = ap (λ b. eqb (mask / 2 ^ i) 0 && b) (lower-is_all (suc i) masks ∙ ap (λ n. list_all (λ p. eqb (p.1 / 2 ^ p.0) 0) (enumerate_from n masks)) (sym (add-one i)))
 
-pub lower_all : (masks : List ℕ) (i : ℕ) → length masks ≤ i → lower 0 masks ≡ lower i (drop i masks) → lower 0 masks ≡ true
-lower_all masks i h e = let end : lower i (drop i masks) ≡ true = at_drop_all (lower i) masks i h in e ∙ end
-
+-- with 0 where there is no stage they are eight
 pub stored_length : (masks : List ℕ) → length masks ≤ 8 → length (masks ++ replicate (8 - length masks) 0) ≡ 8
 stored_length masks few = simp (length-append, length-replicate) (omega arith)

@@ -1,34 +1,15 @@
 -- The reach that is computed is the reach as a relation. Assumes nothing.
-use Rattle.std.proofs.Common.{◌≡◌, ℕ, zero, suc, ◌-◌, ◌^◌, ◌<◌, Bool, true, false, cond, ◌||◌, ◌⊎◌, List, sym, refl, ap, ◌∙◌, inl, inr, arith}
+use Rattle.std.proofs.Common.{◌≡◌, ℕ, zero, suc, ◌^◌, ◌<◌, Bool, true, false, cond, ◌||◌, ◌⊎◌, List, sym, refl, ap, ◌∙◌, inl, inr, arith}
 use lib.Bits.{bit_or}
-use Rattle.std.proofs.lemmas.Bool.{cases_order, true≢false}
+use Rattle.std.proofs.lemmas.Bool.{cases_order, or_cases, or_left, or_right, true≢false}
 use Rattle.stages.specs.Marks.{names}
 use Rattle.playout.specs.Reach.{mask_of, Reach, direct, through, Ordered, Reaches, reach_below, reach_of}
 use Rattle.stages.proofs.Masks.{names_none, names_or, names_own, names_one}
-
--- one stage more
-pub below_more : (masks : List ℕ) (mask n : ℕ) → 0 < n → reach_below masks mask n ≡ cond (names mask (n - 1)) (bit_or (bit_or (reach_below masks mask (n - 1)) (2 ^ (n - 1))) (reach_below masks (mask_of masks (n - 1)) (n - 1))) (reach_below masks mask (n - 1))
-below_more masks mask zero h = absurd (omega arith)
-below_more masks mask (suc n) h =
-    let e : n ≡ suc n - 1 = omega arith in
-    ap (λ k. cond (names mask k) (bit_or (bit_or (reach_below masks mask k) (2 ^ k)) (reach_below masks (mask_of masks k) k)) (reach_below masks mask k)) e
 
 -- a mask that names no stage reaches none
 pub below_none : (masks : List ℕ) (n : ℕ) → reach_below masks 0 n ≡ 0
 below_none masks zero = refl
 below_none masks (suc n) = rw (names_none n, below_none masks n)
-
-or_either : (a b : Bool) → (a || b) ≡ true → (a ≡ true) ⊎ (b ≡ true)
-or_either true b h = inl refl
-or_either false b h = inr h
-
-or_right : (a b : Bool) → b ≡ true → (a || b) ≡ true
-or_right true b h = refl
-or_right false b h = h
-
-or_left : (a b : Bool) → a ≡ true → (a || b) ≡ true
-or_left true b h = refl
-or_left false b h = absurd (true≢false (sym h))
 
 -- where a bit of a union of three comes from
 three : (a b c j : ℕ) → names (bit_or (bit_or a b) c) j ≡ ((names a j || names b j) || names c j)
@@ -49,7 +30,7 @@ sound masks (suc n) mask j h = go (names mask n) refl (sound masks n mask j) (so
 
     pick : names mask n ≡ true → (names (reach_below masks mask n) j ≡ true → From masks mask j) → (names (reach_below masks (mask_of masks n) n) j ≡ true → From masks (mask_of masks n) j) → ((names (reach_below masks mask n) j || names (2 ^ n) j) ≡ true) ⊎ (names (reach_below masks (mask_of masks n) n) j ≡ true) → From masks mask j
     pick e lower up (inr on) = inr (n, e, reached (up on))
-    pick e lower up (inl on) = first (or_either (names (reach_below masks mask n) j) (names (2 ^ n) j) on)
+    pick e lower up (inl on) = first (or_cases (names (reach_below masks mask n) j) (names (2 ^ n) j) on)
       where
         first : (names (reach_below masks mask n) j ≡ true) ⊎ (names (2 ^ n) j ≡ true) → From masks mask j
         first (inl low) = lower low
@@ -59,7 +40,7 @@ sound masks (suc n) mask j h = go (names mask n) refl (sound masks n mask j) (so
     go false e lower up = lower (ap (λ b. names (cond b (bit_or (bit_or (reach_below masks mask n) (2 ^ n)) (reach_below masks (mask_of masks n) n)) (reach_below masks mask n)) j) (sym e) ∙ h)
     go true e lower up =
         let bits = sym (three (reach_below masks mask n) (2 ^ n) (reach_below masks (mask_of masks n) n) j) ∙ ap (λ b. names (cond b (bit_or (bit_or (reach_below masks mask n) (2 ^ n)) (reach_below masks (mask_of masks n) n)) (reach_below masks mask n)) j) (sym e) ∙ h in
-        pick e lower up (or_either (names (reach_below masks mask n) j || names (2 ^ n) j) (names (reach_below masks (mask_of masks n) n) j) bits)
+        pick e lower up (or_cases (names (reach_below masks mask n) j || names (2 ^ n) j) (names (reach_below masks (mask_of masks n) n) j) bits)
 
 -- a named stage below n is reached, and all that it reaches
 complete : (masks : List ℕ) (n mask k j : ℕ) → k < n → names mask k ≡ true → (j ≡ k) ⊎ (names (reach_of masks k) j ≡ true) → names (reach_below masks mask n) j ≡ true

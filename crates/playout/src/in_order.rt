@@ -1,5 +1,5 @@
 // The one-after-another run: what any room is compared with.
-ghost use Rattle.std.specs.Prelude.{◌≡◌, map};
+ghost use Rattle.std.specs.Prelude.{◌≡◌, ◌+◌, ◌^◌, ◌≤◌, map, OnOk};
 ghost use Rattle.events.specs.Refusals.{reply};
 ghost use Rattle.bank.specs.Bank.{handled_by, mark_by};
 ghost use Rattle.playout.specs.InOrder.{given, passed, played, played_answer};
@@ -13,6 +13,7 @@ use limits::SEQUENCE_END;
 use stages::marks::{Marks, show};
 
 // Plays the events from the plan's start on, one after another, and writes the marks that each one got into its row.
+#[tactic(auto, unfolding(crate::specs::InOrder::stages_after))]
 pub fn play_in_order<E: Event, B: Bank<E>>(
     plan: &Plan,
     bank: &mut B,
@@ -22,15 +23,17 @@ pub fn play_in_order<E: Event, B: Bank<E>>(
     ensures { record { answer = reply result; stages = B.Bank.stages bank.new; rows = rows.new } ≡ played (layout plan.now) (B.Bank.stages bank.old) (map E.Event.words events.now) rows.old }
 {
     check_sizes(plan, bank.size(), events.len(), rows.len())?;
-    for k in 0..events.len() {
-        rows[k] = pass(plan, bank, plan.start() + k as u64, &events[k]);
+    // a row is written by its number: of rows that a `zip` of `iter_mut` wrote, nothing is known once it ends
+    for (k, event) in events.iter().enumerate() {
+        rows[k] = pass(plan, bank, plan.start() + k as u64, event);
     }
     Ok(())
 }
 
 // Whether a bank of this size and as many rows fit the plan and the events, and the sequences suffice.
 fn check_sizes(plan: &Plan, size: usize, events: usize, rows: usize) -> Result<(), Refusal>
-    ensures { reply result ≡ played_answer (layout plan.now) size events rows }
+    ensures answer { reply result ≡ played_answer (layout plan.now) size events rows }
+    ensures fits { OnOk result ((size ≡ (layout plan.now).stages) × (rows ≡ events) × ((layout plan.now).start + events ≤ 2 ^ 62)) }
 {
     if size != plan.stages() || rows != events {
         return Err(Refusal::SizeMismatch);
@@ -42,10 +45,12 @@ fn check_sizes(plan: &Plan, size: usize, events: usize, rows: usize) -> Result<(
 }
 
 // Takes one event through all stages in number order, and gives its row of marks.
+#[tactic(auto, unfolding(crate::specs::InOrder::passed))]
 fn pass<E: Event, B: Bank<E>>(plan: &Plan, bank: &mut B, sequence: u64, event: &E) -> Marks
     ensures { record { stages = B.Bank.stages bank.new; row = result } ≡ passed (layout plan.now).masks sequence (E.Event.words event.now) (B.Bank.stages bank.old) (layout plan.now).stages }
 {
     let mut row = [0; 8];
+    // the row is read while it is filled, so no iterator can hold it
     for i in 0..plan.stages() {
         row[i] = pass_stage(plan, bank, i, sequence, event, &row);
     }

@@ -11,6 +11,7 @@ pub mod making;
 pub struct Plan {
     start: u64,
     stages: usize,
+    // eight, 0 past the stages: a plan is Copy, and arrayvec's ArrayVec is not
     masks: Masks,
     ghost started: { start ≤ 2 ^ 62 },
     ghost some: { 1 ≤ stages },

@@ -8,18 +8,19 @@ use stages::marks::names;
 pub type Masks = [u8; 8];
 
 // The reach of stage i, as a mask: every stage in its mask together with their reaches.
+#[tactic(auto, using(crate::proofs::Reached::reaches, crate::proofs::Reached::below_none))]
 pub fn reach(masks: &Masks, i: usize) -> u8
     ensures value { result ≡ reach_of masks.now i }
     ensures reaches { Ordered masks.now → Reaches masks.now i result }
 {
-    if i < 8 {
-        reach_below(masks, masks[i], i)
-    } else {
-        0
+    match masks.get(i) {
+        Some(mask) => reach_below(masks, *mask, i),
+        None => 0,
     }
 }
 
 // The stages below n that a mask names, together with their reaches.
+// It calls itself as the rule does, each time for a lower stage: a loop would need a table of reaches to fill.
 fn reach_below(masks: &Masks, mask: u8, n: usize) -> u8
     requires { n ≤ 8 }
     ensures { result ≡ reach_below masks.now mask n }

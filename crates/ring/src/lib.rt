@@ -2,9 +2,9 @@
 
 #![tactic(auto)]
 
-ghost use Rattle.std.specs.Prelude.{◌≡◌, ◌-◌, ◌^◌, ◌<◌, min, length, replicate, slice_set};
+ghost use Rattle.std.specs.Prelude.{◌≡◌, ◌%◌, ◌^◌, ◌==◌, ◌&&◌, Some, None, if◌then◌else◌, length, nat_lt};
 ghost use Rattle.events.specs.Refusals.{reply};
-ghost use Rattle.ring.specs.Ring.{checked, event_at, made_events, made_marks, mark_at, marked, place, row_at, written};
+ghost use Rattle.ring.specs.Ring.{checked, event_at, is_mark, made_events, made_marks, mark_at, marked, place, row_at, written};
 ghost use Rattle.stages.specs.Marks.{shown};
 ghost use Rattle.std.specs.Option.{option_map};
 
@@ -12,6 +12,7 @@ use events::event::Event;
 use events::refusal::Refusal;
 use limits::is_capacity;
 use stages::marks::{Marks, show};
+use std::array;
 
 // Over the maker's slice of events, one a slot, and slice of marks, eight a slot.
 #[derive(Drop)]
@@ -21,6 +22,7 @@ pub struct Ring<'a, E> {
 }
 
 // Whether memory fits a ring: as many slots as a capacity, and eight marks a slot.
+#[tactic(auto, using(limits::proofs::Capacities::capacity_most))]
 pub fn check(slots: usize, marks: usize) -> Result<(), Refusal>
     ensures { reply result ≡ checked slots marks }
 {
@@ -42,8 +44,9 @@ impl<'a, E: Event> Ring<'a, E> {
         ensures same_marks { result.marks.ghost_name ≡ marks.entry.ghost_name }
     {
         if check(events.len(), marks.len()).is_ok() {
-            fill(events, E::blank());
-            fill(marks, 0);
+            // `fill` asks that a copy of an event cannot fail, which no event kind says
+            events.fill_with(|| E::blank());
+            marks.fill(0);
         }
         Ring { events, marks }
     }
@@ -66,11 +69,7 @@ impl<'a, E: Event> Ring<'a, E> {
     pub fn event(&self, s: u64) -> Option<&E>
         ensures { option_map (λ x. x.now) result ≡ event_at E.Event.blank self.now.events.now s }
     {
-        let events = &*self.events;
-        if events.is_empty() {
-            return None;
-        }
-        Some(&events[s as usize % events.len()])
+        self.events.get(self.slot(s)?)
     }
 
     // Writes an event into the slot of a sequence.
@@ -80,24 +79,19 @@ impl<'a, E: Event> Ring<'a, E> {
         ensures same_events { self.new.events.ghost_name ≡ self.old.events.ghost_name }
         ensures same_marks { self.new.marks.ghost_name ≡ self.old.marks.ghost_name }
     {
-        let slots = self.events.len();
-        if slots == 0 {
-            return;
+        if let Some(slot) = self.slot(s) {
+            self.events[slot] = event;
         }
-        write_slot(self.events, s as usize % slots, event);
     }
 
     // Mark i of the slot of a sequence; 0 if there is none.
     pub fn mark(&self, s: u64, i: usize) -> u32
         ensures { result ≡ mark_at (length self.now.events.now) self.now.marks.now s i }
     {
-        let slots = self.events.len();
-        if i > 7 || slots == 0 {
-            return 0;
-        }
-        let at = place(slots, s, i);
-        let marks = &*self.marks;
-        if at < marks.len() { marks[at] } else { 0 }
+        self.place(s, i)
+            .and_then(|at| self.marks.get(at))
+            .copied()
+            .unwrap_or(0)
     }
 
     // Writes mark i of the slot of a sequence, if there is such a mark.
@@ -107,13 +101,10 @@ impl<'a, E: Event> Ring<'a, E> {
         ensures same_events { self.new.events.ghost_name ≡ self.old.events.ghost_name }
         ensures same_marks { self.new.marks.ghost_name ≡ self.old.marks.ghost_name }
     {
-        let slots = self.events.len();
-        if slots == 0 || i > 7 {
-            return;
-        }
-        let at = place(slots, s, i);
-        if at < self.marks.len() {
-            write_slot(self.marks, at, mark);
+        if let Some(at) = self.place(s, i)
+            && at < self.marks.len()
+        {
+            self.marks[at] = mark;
         }
     }
 
@@ -121,41 +112,24 @@ impl<'a, E: Event> Ring<'a, E> {
     pub fn marks(&self, s: u64, among: u8) -> Marks
         ensures { result ≡ shown among (row_at (length self.now.events.now) self.now.marks.now s) }
     {
-        let row = [
-            self.mark(s, 0),
-            self.mark(s, 1),
-            self.mark(s, 2),
-            self.mark(s, 3),
-            self.mark(s, 4),
-            self.mark(s, 5),
-            self.mark(s, 6),
-            self.mark(s, 7),
-        ];
+        let row = array::from_fn(|i| self.mark(s, i));
         show(among, &row)
     }
-}
 
-// Where mark i of the slot of a sequence stands; the largest number if it is past all memory.
-fn place(slots: usize, s: u64, i: usize) -> usize
-    requires { 0 < slots }
-    ensures { result ≡ min (place slots s i) (2 ^ 64 - 1) }
-{
-    (s as usize % slots).saturating_mul(8).saturating_add(i)
-}
+    // The slot of a sequence, if there are slots.
+    fn slot(&self, s: u64) -> Option<usize>
+        ensures { result ≡ (if length self.now.events.now == 0 then None else Some (s % length self.now.events.now)) }
+    {
+        (s as usize).checked_rem(self.events.len())
+    }
 
-// Writes an element of a slice.
-fn write_slot<T: Copy>(slots: &mut [T], k: usize, value: T)
-    requires { k < length slots.old }
-    ensures { slots.new ≡ slice_set slots.old k value }
-{
-    slots[k] = value;
-}
-
-// Writes a value into every element.
-fn fill<T: Copy>(all: &mut [T], value: T)
-    ensures { all.new ≡ replicate (length all.old) value }
-{
-    for k in 0..all.len() {
-        all[k] = value;
+    // Where mark i of the slot of a sequence stands, if there is such a mark and it is not past all memory.
+    fn place(&self, s: u64, i: usize) -> Option<usize>
+        ensures { let at = place (length self.now.events.now) s i in result ≡ (if is_mark (length self.now.events.now) i && nat_lt at (2 ^ 64) then Some at else None) }
+    {
+        if i > 7 {
+            return None;
+        }
+        self.slot(s)?.checked_mul(8)?.checked_add(i)
     }
 }

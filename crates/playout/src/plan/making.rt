@@ -24,13 +24,11 @@ impl Plan {
         if start > SEQUENCE_END {
             return Err(Refusal::Start);
         }
-        let mut all: Masks = [0; 8];
-        for (i, mask) in masks.iter().enumerate() {
-            if mask >> i != 0 {
-                return Err(Refusal::StageRecord);
-            }
-            all[i] = *mask;
+        if !masks.iter().enumerate().all(|(i, mask)| mask >> i == 0) {
+            return Err(Refusal::StageRecord);
         }
+        let mut all: Masks = [0; 8];
+        all[..stages].copy_from_slice(masks);
         Ok(Plan {
             start,
             stages,
@@ -64,18 +62,13 @@ impl Plan {
     pub fn mask(&self, i: usize) -> u8
         ensures { result ≡ mask_of (layout self.now).masks i }
     {
-        if i < MOST_STAGES { self.masks[i] } else { 0 }
+        self.masks.get(i).copied().unwrap_or(0)
     }
 
     // Whether stage j stands in no mask, so that what it has committed gates the producers.
     pub fn is_gating(&self, j: usize) -> bool
         ensures { result ≡ gating (layout self.now) j }
     {
-        for i in 0..self.stages {
-            if names(self.masks[i], j) {
-                return false;
-            }
-        }
-        true
+        !self.masks[..self.stages].iter().any(|mask| names(*mask, j))
     }
 }

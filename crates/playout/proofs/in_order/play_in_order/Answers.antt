@@ -1,61 +1,40 @@
-use Rattle.std.proofs.Common.{◌≡◌, ℕ, ◌+◌, ◌≤◌, List, [], map, length, get_or, set, Err, Result, sym, ap, ◌∙◌, arith}
+use Rattle.std.proofs.Common.{◌≡◌, ℕ, ◌+◌, ◌≤◌, List, [], map, length, get_or, set, sym, ap, ◌∙◌, add-one, arith}
 use Rattle.std.proofs.lemmas.List.Edits.{fill_by_more}
-use Rattle.events.specs.Refusals.{number, reply}
-use Rattle.events.specs.declared.refusal.Refusal.{Refusal}
 use Rattle.std.proofs.lemmas.List.{get_or-map, length-map}
-use Rattle.std.proofs.lemmas.Result.{err_from_is_err_and}
-use Rattle.playout.specs.InOrder.{Pass, Played, passed, played_answer, row_of, stages_after}
+use Rattle.playout.specs.InOrder.{Pass, passed, row_of, stages_after}
 use Rattle.playout.specs.Plan.{layout}
-use Rattle.playout.proofs.Passes.{after_more, after_none, played_all, played_refused, sizes_fit}
+use Rattle.std.specs.List.{range_with_len}
+use Rattle.std.proofs.lemmas.List.FromFn.{fill_by_all}
+use Rattle.std.proofs.lemmas.Bool.Decides.{nat_tests}
 use Rattle.playout.proofs.in_order.play_in_order.Goals as goal
 
-pub returns-in_err-check_sizes : goal.returns-in_err-check_sizes
-returns-in_err-check_sizes g c =
-    let plan = c.args.plan.now in
-    let bank = g.B.Bank.stages c.args.bank.now in
-    let events = map g.E.Event.words c.args.events.now in
-    let long : length events ≡ length c.args.events.now = length-map c.args.events.now g.E.Event.words in
-    let few : plan.stages ≤ 8 = plan.few in
-    let p = err_from_is_err_and c.from_residual.result c.from_residual.ensures.1 in
-    let out : Result (Unit {0}) Refusal → Played = λ r. record { answer = reply r; stages = bank; rows = c.args.rows.now } in
-    ap out (p.1 ∙ ap Err p.2)
-    ∙ played_refused (layout plan) bank events c.args.rows.now c.size.result c.size.ensures few (number c.in_err-check_sizes.field-0.0)
-    (c.in_err-check_sizes.ensures ∙ ap (λ n. played_answer (layout plan) c.size.result n (length c.args.rows.now)) (sym long))
-
-pub loop-k-init : goal.loop-k-init
-loop-k-init g c = (after_none (layout c.args.plan.now) (g.B.Bank.stages c.args.bank.now) _, λ n h. absurd (omega arith))
-
 pub loop-k-preserved : goal.loop-k-preserved
+unfolding stages_after
 loop-k-preserved g c =
     let l = layout c.args.plan.now in
     let bank = g.B.Bank.stages c.args.bank.now in
     let events = c.args.events.now in
     let k = c.loop-k.k in
+    let fit = c.in_ok-check_sizes.ensures.fits in
     let words : ℕ → List ℕ = λ n. get_or (map g.E.Event.words events) n [] in
-    let fit = sizes_fit l c.size.result (length events) (length c.args.rows.now) c.in_ok-check_sizes.ensures in
     let event : g.E.Event.words c.index-events-k.result ≡ words k = ap g.E.Event.words c.index-events-k.is ∙ sym (get_or-map g.E.Event.words events k c.index-events-k.result [] (omega arith)) in
-    let first : c.start.result + k ≡ l.start + k = ap (λ n. n + k) c.start.ensures in
     let now : Pass = record { stages = g.B.Bank.stages c.pass.new.bank; row = c.pass.result } in
-    let done : now ≡ passed l.masks (l.start + k) (words k) (stages_after l bank words k) l.stages =
-    c.pass.ensures
-    ∙ ap (λ s. passed l.masks s (g.E.Event.words c.index-events-k.result) (g.B.Bank.stages c.loop-k.bank) l.stages) first
-    ∙ ap (λ w. passed l.masks (l.start + k) w (g.B.Bank.stages c.loop-k.bank) l.stages) event
-    ∙ ap (λ st. passed l.masks (l.start + k) (words k) st l.stages) c.loop-k.invariant.0 in (
-      ap (λ p. p.stages) done ∙ after_more l bank words k,
-      λ n h. ap (λ row. get_or (set c.loop-k.rows k row) n []) (ap (λ p. p.row) done)
-          ∙ fill_by_more (row_of l bank words) c.loop-k.rows k [] (omega arith) c.loop-k.invariant.1 n h,
-    )
+    let done : now ≡ passed l.masks (l.start + k) (words k) (stages_after l bank words k) l.stages = cc in
+    record {
+      stages = ap (λ p. p.stages) done ∙ ap (stages_after l bank words) (sym (add-one k));
+      rows = λ n h. ap (λ row. get_or (set c.loop-k.rows k row) n []) (ap (λ p. p.row) done) ∙ fill_by_more (row_of l bank words) c.loop-k.rows k [] (omega arith) c.loop-k.invariant.rows n h;
+    }
 
 pub returns : goal.returns
 returns g c =
-    let plan = c.args.plan.now in
+    let l = layout c.args.plan.now in
+    let bank = g.B.Bank.stages c.args.bank.now in
     let events = map g.E.Event.words c.args.events.now in
+    let words : ℕ → List ℕ = λ n. get_or events n [] in
+    let few : l.stages ≤ 8 = c.args.plan.now.few in
+    let fit = c.in_ok-check_sizes.ensures.fits in
     let long : length events ≡ length c.args.events.now = length-map c.args.events.now g.E.Event.words in
-    let few : plan.stages ≤ 8 = plan.few in
-    let fit = sizes_fit (layout plan) c.size.result (length c.args.events.now) (length c.args.rows.now) c.in_ok-check_sizes.ensures in
     let all : c.loop-k.k ≡ length events = omega arith in
-    played_all (layout plan) (g.B.Bank.stages c.args.bank.now) events c.args.rows.now c.size.result c.size.ensures few
-    (c.in_ok-check_sizes.ensures ∙ ap (λ n. played_answer (layout plan) c.size.result n (length c.args.rows.now)) (sym long))
-    (g.B.Bank.stages c.loop-k.bank) c.loop-k.rows
-    (c.loop-k.invariant.0 ∙ ap (stages_after (layout plan) (g.B.Bank.stages c.args.bank.now) (λ n. get_or events n [])) all)
-    (omega arith) (λ n h. c.loop-k.invariant.1 n (omega arith))
+    let stages : g.B.Bank.stages c.loop-k.bank ≡ stages_after l bank words (length events) = c.loop-k.invariant.stages ∙ ap (stages_after l bank words) all in
+    let rows : c.loop-k.rows ≡ map (row_of l bank words) (range_with_len 0 (length events)) = fill_by_all (row_of l bank words) c.loop-k.rows (length events) [] (omega arith) (λ n h. c.loop-k.invariant.rows n (omega arith)) in
+    grind (arith, nat_tests, c.size.ensures)

@@ -8,5 +8,7 @@ abbrev pub invariant-loop-k : goal.invariant-loop-k
 invariant-loop-k g l =
     let words = (λ (n : ℕ). get_or (map g.E.Event.words l.events) n []) in
     let bank = g.B.Bank.stages l.initial.bank in
-    (g.B.Bank.stages l.bank ≡ stages_after (layout l.plan) bank words l.k)
-    × ((n : ℕ) → n < l.k → get_or l.rows n [] ≡ row_of (layout l.plan) bank words n)
+    record {
+      stages : g.B.Bank.stages l.bank ≡ stages_after (layout l.plan) bank words l.k;
+      rows : (n : ℕ) → n < l.k → get_or l.rows n [] ≡ row_of (layout l.plan) bank words n;
+    }

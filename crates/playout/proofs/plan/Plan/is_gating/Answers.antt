@@ -1,19 +1,13 @@
-use Rattle.std.proofs.Common.{◌≡◌, not, sym, ap, ◌∙◌, arith}
-use Rattle.playout.specs.Plan.{in_mask}
-use Rattle.playout.proofs.Gatings.{mask_has, mask_more, mask_none}
+use Rattle.std.proofs.Common.{not, take, sym, ap, ◌∙◌, arith, rules, tests}
+use Rattle.std.proofs.lemmas.Iterator.{YieldsList-from_slice}
+use Rattle.std.proofs.lemmas.Iterator.Search.{any_from_yields_List}
+use Rattle.stages.specs.Marks.{names}
+use Rattle.playout.proofs.Gatings.{in_mask-is_any}
 use Rattle.playout.proofs.plan.Plan.is_gating.Goals as goal
-
-pub loop-i-init : goal.loop-i-init
-loop-i-init c = mask_none c.args.self.now.masks c.args.j
-
-pub loop-i-preserved : goal.loop-i-preserved
-loop-i-preserved c = mask_more c.args.self.now.masks c.args.j c.loop-i.i c.loop-i.invariant (sym c.names.ensures ∙ c.if-names.false)
-
-pub returns-then-names : goal.returns-then-names
-returns-then-names c =
-    sym (ap not (mask_has c.args.self.now.masks c.args.j c.loop-i.i c.args.self.now.stages c.loop-i-test.true (sym c.names.ensures ∙ c.if-names.true)))
 
 pub returns : goal.returns
 returns c =
-    let all : c.loop-i.i ≡ c.args.self.now.stages = omega arith in
-    sym (ap not (sym (ap (in_mask c.args.self.now.masks c.args.j) all) ∙ c.loop-i.invariant))
+    let p = c.args.self.now in
+    let any = any_from_yields_List (λ mask. names mask c.args.j) _ _ _ c.any.ensures.ran (YieldsList-from_slice (take p.stages p.masks) cc) (λ x b q k. search (rules, tests)) in
+    let same = in_mask-is_any p.masks c.args.j p.stages (omega arith) in
+    ap not (any ∙ sym same)

@@ -1,49 +1,40 @@
-use Rattle.std.proofs.Common.{◌≡◌, suc, ◌+◌, ◌-◌, ◌/◌, ◌^◌, true, false, ◌&&◌, eqb, length, get_or, drop, set, sym, ap, ◌∙◌, subst, add-one, arith}
-use Rattle.events.proofs.Bytes.{front_more}
-use Rattle.std.proofs.lemmas.List.{at_drop_more}
-use Rattle.std.proofs.lemmas.Bool.{eq-eqb, ne_eqb}
+use Rattle.std.proofs.Common.{◌≡◌, ◌/◌, ◌^◌, ◌-◌, ◌++◌, eqb, length, drop, replicate, sym, ap, ◌∙◌, subst, arith, rules, tests}
 use Rattle.std.proofs.lemmas.Bool.Decides.{nat_tests}
+use Rattle.std.proofs.lemmas.List.{drop-replicate}
+use Rattle.std.proofs.lemmas.Iterator.{YieldsList-from_slice}
+use Rattle.std.proofs.lemmas.Iterator.Consumers.{YieldsList-from_enumerate}
+use Rattle.std.proofs.lemmas.Iterator.Search.{all_from_yields_List}
 use Rattle.playout.specs.Plan.{lower}
 use Rattle.playout.specs.Reach.{Ordered}
-use Rattle.playout.proofs.Masks.{lower_all, lower_ordered, stored_all, stored_length}
+use Rattle.playout.proofs.Masks.{lower-is_all, lower_ordered, stored_length}
+use Rattle.playout.proofs.plan.Plan.new.Goals.{After-all, After-copy_from_slice}
 use Rattle.playout.proofs.plan.Plan.new.Goals as goal
 
-pub returns-then-mask-i-ne0 : goal.returns-then-mask-i-ne0
-returns-then-mask-i-ne0 c =
-    let masks = c.args.masks.now in
-    let i = c.loop-i.i in
-    let here : eqb (get_or masks i 0 / 2 ^ i) 0 ≡ false = ne_eqb (get_or masks i 0 / 2 ^ i) 0 (omega arith) in
-    let split : lower i (drop i masks) ≡ (eqb (get_or masks i 0 / 2 ^ i) 0 && lower (suc i) (drop (i + 1) masks)) = at_drop_more (lower i) masks i 0 (omega arith) in
-    let bad : lower 0 masks ≡ false = c.loop-i.invariant.1 ∙ split ∙ ap (λ b. b && lower (suc i) (drop (i + 1) masks)) here in
-    grind (arith, nat_tests, bad)
+-- the call tells whether the masks are ordered
+tested : (c : After-all) → c.all.result ≡ lower 0 c.args.masks.now
+tested c =
+    all_from_yields_List (λ p. eqb (p.1 / 2 ^ p.0) 0) _ _ c.all.result c.all.ensures.ran
+    (YieldsList-from_enumerate (YieldsList-from_slice c.args.masks.now cc) cc)
+    (λ x b q k. search (rules, tests))
+    ∙ sym (lower-is_all 0 c.args.masks.now)
 
-pub loop-i-preserved : goal.loop-i-preserved
-loop-i-preserved c =
-    let masks = c.args.masks.now in
-    let i = c.loop-i.i in
-    let here : eqb (get_or masks i 0 / 2 ^ i) 0 ≡ true = eq-eqb (get_or masks i 0 / 2 ^ i) 0 (omega arith) in
-    let split : lower i (drop i masks) ≡ (eqb (get_or masks i 0 / 2 ^ i) 0 && lower (suc i) (drop (i + 1) masks)) = at_drop_more (lower i) masks i 0 (omega arith) in
-    let rest : lower 0 masks ≡ lower (suc i) (drop (i + 1) masks) = c.loop-i.invariant.1 ∙ split ∙ ap (λ b. b && lower (suc i) (drop (i + 1) masks)) here in (
-      ap (λ all. set all i (get_or masks i 0)) c.loop-i.invariant.0 ∙ front_more 8 masks i (omega arith) (omega arith),
-      rest ∙ ap (λ n. lower n (drop (i + 1) masks)) (sym (add-one i)),
-    )
+-- the array is the masks, and 0 where there is no stage
+stored : (c : After-copy_from_slice) → c.copy_from_slice.new.self ++ drop (length c.args.masks.now) (replicate 8 0) ≡ c.args.masks.now ++ replicate (8 - length c.args.masks.now) 0
+stored c =
+    ap (λ xs. xs ++ drop (length c.args.masks.now) (replicate 8 0)) c.copy_from_slice.ensures.after
+    ∙ ap (λ xs. c.args.masks.now ++ xs) (drop-replicate (length c.args.masks.now) 8 0)
 
-pub invariant_of-result : goal.invariant_of-result
-invariant_of-result c =
-    let masks = c.args.masks.now in
-    let all = stored_all c.loop-i.all masks c.loop-i.i (omega arith) c.loop-i.invariant.0 in
-    let low = lower_all masks c.loop-i.i c.loop-i-test.false c.loop-i.invariant.1 in
-    record {
-      started = omega arith;
-      some = omega arith;
-      few = omega arith;
-      eight = ap length all ∙ stored_length masks (omega arith);
-      ordered = subst Ordered (sym all) (lower_ordered masks (8 - length masks) low);
-    }
+pub returns-then-not-all : goal.returns-then-not-all
+returns-then-not-all c = grind (arith, nat_tests, tested (goal.at.returns-then-not-all c).After-all)
+
+pub invariant_of-result-clause-eight : goal.invariant_of-result-clause-eight
+invariant_of-result-clause-eight c =
+    ap length (stored (goal.at.invariant_of-result-clause-eight c).After-copy_from_slice) ∙ stored_length c.args.masks.now (omega arith)
+
+pub invariant_of-result-clause-ordered : goal.invariant_of-result-clause-ordered
+invariant_of-result-clause-ordered c =
+    let low = sym (tested (goal.at.invariant_of-result-clause-ordered c).After-all) ∙ c.if-not-all.false in
+    subst Ordered (sym (stored (goal.at.invariant_of-result-clause-ordered c).After-copy_from_slice)) (lower_ordered c.args.masks.now (8 - length c.args.masks.now) low)
 
 pub returns : goal.returns
-returns c =
-    let masks = c.args.masks.now in
-    let all = stored_all c.loop-i.all masks c.loop-i.i (omega arith) c.loop-i.invariant.0 in
-    let low = lower_all masks c.loop-i.i c.loop-i-test.false c.loop-i.invariant.1 in
-    grind (arith, nat_tests, low, all)
+returns c = grind (arith, nat_tests, tested (goal.at.returns c).After-all, stored (goal.at.returns c).After-copy_from_slice)
