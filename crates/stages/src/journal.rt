@@ -14,8 +14,8 @@ pub struct Journal {
     digest: u32,
 }
 
-// Codes are below this, 2^32.
-const CODES: u64 = 4_294_967_296;
+// Codes are below this.
+const CODES: u64 = 1 << 32;
 
 impl Journal {
     // A journal that has handled nothing.
@@ -58,10 +58,7 @@ impl<E: Event> Stage<E> for Journal {
     ghost tells = { Prim.search rules };
 
     fn handle(&mut self, sequence: u64, event: &E, _marks: &Marks) -> u32 {
-        let mut code = fold(0, sequence);
-        for k in 0..event.count() {
-            code = fold(code, event.word(k));
-        }
+        let code = (0..event.count()).fold(fold(0, sequence), |code, k| fold(code, event.word(k)));
         self.handled = self.handled.wrapping_add(1);
         self.digest = fold(self.digest, u64::from(code));
         code

@@ -6,6 +6,7 @@ ghost use Rattle.stages.specs.Marks.{names, shown};
 pub type Marks = [u32; 8];
 
 // Whether a mask names stage j: bit j does.
+#[tactic(auto, using(crate::proofs::Masks::names_byte))]
 pub fn names(mask: u8, j: usize) -> bool
     ensures { result ≡ names mask j }
 {

@@ -1,5 +1,6 @@
-use Rattle.std.proofs.Common.{rules, ◌≡◌, ℕ, zero, suc, ◌+◌, ◌<◌, ◌≤◌, cond, List, slice_index, get_or, ◌∙◌, subst, inl, inr, arith}
-use Rattle.std.specs.Array.{IsFromFnResultFrom}
+use Rattle.std.proofs.Common.{rules, ◌≡◌, ℕ, zero, suc, ◌+◌, ◌<◌, ◌≤◌, cond, List, map, slice_index, get_or, ◌∙◌, subst, inl, inr, arith}
+use Rattle.std.specs.Array.{IsFromFnResult, IsFromFnResultFrom}
+use Rattle.std.specs.List.{range_with_len}
 use denote.Param.Members.{Mut, Called}
 use Rattle.std.proofs.lemmas.Bool.{cases_lt}
 use Rattle.std.proofs.lemmas.List.FromFn.{fill_by_all}
@@ -17,7 +18,8 @@ from_fn_at {F} g f h ys gives i (suc n) made k low below =
       | inr least ↦ let e : i ≡ k = omega arith in subst (λ j. get_or ys j 0 ≡ h j) e (made.2.1 0 ∙ this.0)
     ]
 
+from_fn_map : {F : Type 0} {g : Mut F (ℕ × Unit {0}) ℕ} {f : F} {ys : List ℕ} {n : ℕ} (h : ℕ → ℕ) → IsFromFnResult g f ys n → ((j y : ℕ) (q : F) → Called g f (j, tt) y q → (y ≡ h j) × (q ≡ f)) → ys ≡ map h (range_with_len 0 n)
+from_fn_map {g} {f} {ys} {n} h made gives = fill_by_all h ys n 0 made.long (λ k below. from_fn_at g f h ys gives 0 n made.each k (omega arith) (omega arith))
+
 pub returns : goal.returns
-returns c =
-    let h : ℕ → ℕ = λ j. cond (names c.args.among j) (slice_index c.args.marks.now j) 0 in
-    fill_by_all h c.from_fn.result 8 0 c.from_fn.ensures.items.long (λ k below. from_fn_at _ _ h c.from_fn.result (λ j y q called. search rules) 0 8 c.from_fn.ensures.items.each k (omega arith) below)
+returns c = from_fn_map (λ j. cond (names c.args.among j) (slice_index c.args.marks.now j) 0) c.from_fn.ensures.items (λ j y q called. search rules)
