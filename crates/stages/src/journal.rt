@@ -30,7 +30,7 @@ impl Journal {
 }
 
 // (31c + w) mod 2^32
-fn fold(code: u32, word: u64) -> u32
+fn folded(code: u32, word: u64) -> u32
     ensures { result ≡ folded code word }
 {
     ((31 * u64::from(code) + word % CODES) % CODES) as u32
@@ -58,9 +58,10 @@ impl<E: Event> Stage<E> for Journal {
     ghost tells = { Prim.search rules };
 
     fn handle(&mut self, sequence: u64, event: &E, _marks: &Marks) -> u32 {
-        let code = (0..event.count()).fold(fold(0, sequence), |code, k| fold(code, event.word(k)));
+        let start = folded(0, sequence);
+        let code = (0..event.count()).fold(start, |code, k| folded(code, event.word(k)));
         self.handled = self.handled.wrapping_add(1);
-        self.digest = fold(self.digest, u64::from(code));
+        self.digest = folded(self.digest, u64::from(code));
         code
     }
 }
