@@ -2,10 +2,12 @@
 
 #![tactic(auto)]
 
-ghost use Rattle.std.specs.Prelude.{◌≡◌, map, length, slice_index};
+ghost use Rattle.std.specs.Prelude.{◌≡◌};
+ghost use Rattle.std.specs.Result.{result_ok};
 ghost use Rattle.air.specs.Air.{action_named, air, air_figures, fresh_air, obeyed, settled, shown_figure};
 ghost use Rattle.std.proofs.Common.{rules};
 
+use cue_stages::channel::{self, Channel};
 use cue_stages::{CHANNELS, LAST_CHANNEL};
 use events::cue::Cue;
 use stages::figures::Figures;
@@ -29,17 +31,23 @@ pub enum Action {
     Clear,
 }
 
-impl Action {
-    // The action that a cue's number names, if any.
-    pub fn named(number: u8) -> Option<Action>
-        ensures { result ≡ action_named number }
-    {
+// The error of a number that names no action.
+#[derive(Clone, Copy)]
+pub struct NoSuchAction;
+
+// The action that a cue's number names.
+impl TryFrom<u8> for Action {
+    type Error = NoSuchAction;
+
+    ghost try_from_gives = { λ number named. result_ok named ≡ action_named number };
+
+    fn try_from(number: u8) -> Result<Action, NoSuchAction> {
         match number {
-            0 => Some(Action::Take),
-            1 => Some(Action::Hold),
-            2 => Some(Action::Resume),
-            3 => Some(Action::Clear),
-            _ => None,
+            0 => Ok(Action::Take),
+            1 => Ok(Action::Hold),
+            2 => Ok(Action::Resume),
+            3 => Ok(Action::Clear),
+            _ => Err(NoSuchAction),
         }
     }
 }
@@ -89,22 +97,11 @@ impl Air {
     }
 }
 
-// How many channels have a figure.
-fn shown_count(channels: &[Shown; CHANNELS]) -> usize
-    ensures value { result ≡ length (map shown_figure channels.now) }
-    ensures sixteen { result ≡ 16 }
-{
-    channels.len()
-}
+impl Channel for Shown {
+    ghost figure = { shown_figure };
 
-// The figure of a channel, or 0 if there is no such channel.
-fn shown_figure(channels: &[Shown; CHANNELS], i: usize) -> u64
-    ensures { result ≡ slice_index (map shown_figure channels.now) i }
-{
-    if i < CHANNELS {
-        channels[i].figure()
-    } else {
-        0
+    fn figure(self) -> u64 {
+        Shown::figure(self)
     }
 }
 
@@ -112,13 +109,13 @@ impl Figures for Air {
     ghost figures = { air_figures };
 
     fn count(&self) -> usize {
-        1 + shown_count(&self.channels)
+        1 + self.channels.len()
     }
 
     fn figure(&self, k: usize) -> u64 {
         match k {
             0 => self.obeyed,
-            _ => shown_figure(&self.channels, k - 1),
+            _ => channel::figure(&self.channels, k - 1),
         }
     }
 }
@@ -128,14 +125,15 @@ impl Stage<Cue> for Air {
 
     ghost tells = { Prim.search rules };
 
+    #[tactic(auto, using(crate::proofs::Channels::channels))]
     fn handle(&mut self, _sequence: u64, cue: &Cue, _marks: &Marks) -> u32 {
-        let Some(action) = Action::named(cue.action) else {
+        let Ok(action) = Action::try_from(cue.action) else {
             return 1;
         };
         if cue.channel > LAST_CHANNEL {
             return 1;
         }
-        let channel = &mut self.channels[cue.channel as usize];
+        let channel = &mut self.channels[usize::from(cue.channel)];
         if !channel.obey(action, cue.item) {
             return 1;
         }

@@ -1,18 +1,18 @@
 -- Check, for cues: whether a cue can be played, and comes in order. Assumes nothing.
-use Rattle.std.specs.Prelude.{ℕ, suc, ◌+◌, cond, List, ◌∷◌, map, replicate, Some, None, Option, ◌==◌, nat_lt, slice_index, slice_set}
+use Rattle.std.specs.Prelude.{ℕ, suc, ◌+◌, cond, List, ◌∷◌, map, replicate, Some, None, Option, Ok, Err, Result, ◌==◌, nat_lt, slice_index, slice_set}
 use Rattle.cue_stages.specs.Cues.{channel_of, action_of, frame_of}
 use Rattle.stages.specs.Meaning.{Meaning, one_more}
 use Rattle.cue_stages.specs.declared.check.Check.{Check}
-use Rattle.cue_stages.specs.declared.check.Verdict.{Verdict}
-use Rattle.cue_stages.specs.declared.check.Verdict.TheVariants.{Good, NoSuchChannel, NoSuchAction, NoSuchFrame, Backwards}
+use Rattle.cue_stages.specs.declared.check.Flaw.{Flaw}
+use Rattle.cue_stages.specs.declared.check.Flaw.TheVariants.{NoSuchChannel, NoSuchAction, NoSuchFrame, Backwards}
 
 -- the mark that stands for each verdict
-abbrev pub verdict_mark : Verdict → ℕ
-verdict_mark Good = 0
-verdict_mark NoSuchChannel = 1
-verdict_mark NoSuchAction = 2
-verdict_mark NoSuchFrame = 3
-verdict_mark Backwards = 4
+abbrev pub verdict_mark : Result Unit Flaw → ℕ
+verdict_mark (Ok found) = 0
+verdict_mark (Err NoSuchChannel) = 1
+verdict_mark (Err NoSuchAction) = 2
+verdict_mark (Err NoSuchFrame) = 3
+verdict_mark (Err Backwards) = 4
 
 -- where a channel stands in the figures: after good and bad
 abbrev pub last_place : ℕ → ℕ

@@ -2,6 +2,7 @@
 
 #![tactic(auto)]
 
+pub mod channel;
 pub mod check;
 
 // Channels are numbered from 0 to the last, and so are the actions that a cue may name.

@@ -14,8 +14,8 @@ pub struct Journal {
     digest: u32,
 }
 
-// Codes are below this, 2^32.
-const CODES: u64 = 4_294_967_296;
+// Codes are below this.
+const CODES: u64 = 1 << 32;
 
 impl Journal {
     // A journal that has handled nothing.
@@ -30,7 +30,7 @@ impl Journal {
 }
 
 // (31c + w) mod 2^32
-fn fold(code: u32, word: u64) -> u32
+fn folded(code: u32, word: u64) -> u32
     ensures { result ≡ folded code word }
 {
     ((31 * u64::from(code) + word % CODES) % CODES) as u32
@@ -58,12 +58,10 @@ impl<E: Event> Stage<E> for Journal {
     ghost tells = { Prim.search rules };
 
     fn handle(&mut self, sequence: u64, event: &E, _marks: &Marks) -> u32 {
-        let mut code = fold(0, sequence);
-        for k in 0..event.count() {
-            code = fold(code, event.word(k));
-        }
+        let start = folded(0, sequence);
+        let code = (0..event.count()).fold(start, |code, k| folded(code, event.word(k)));
         self.handled = self.handled.wrapping_add(1);
-        self.digest = fold(self.digest, u64::from(code));
+        self.digest = folded(self.digest, u64::from(code));
         code
     }
 }

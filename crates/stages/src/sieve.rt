@@ -31,10 +31,9 @@ impl<E: Event, S: Stage<E>> Stage<E> for Sieve<S> {
     ghost tells = { Prim.search rules };
 
     fn handle(&mut self, sequence: u64, event: &E, marks: &Marks) -> u32 {
-        if self.tested > 7 || marks[self.tested as usize] == 0 {
-            self.below.handle(sequence, event, marks)
-        } else {
-            0
+        match marks.get(usize::from(self.tested)) {
+            Some(&mark) if mark != 0 => 0,
+            _ => self.below.handle(sequence, event, marks),
         }
     }
 }

@@ -1,26 +1,27 @@
-use Rattle.std.proofs.Common.{◌≡◌, ◌+◌, [], ◌∷◌, get_or, drop, sym, ap, ◌∙◌, arith}
-use Rattle.std.proofs.lemmas.List.{at_drop_more, at_drop_all}
+use Rattle.std.proofs.Common.{rules, ◌≡◌, ℕ, [], ◌∷◌, slice_index, fold, refl, sym, ap, ◌∙◌, arith}
+use Rattle.std.specs.List.{range_with_len}
+use Rattle.std.proofs.iter.Yields.{nat_range_steps}
+use Rattle.std.proofs.lemmas.Iterator.{YieldsList-from_range}
+use Rattle.std.proofs.lemmas.Fn.{fold_over}
+use Rattle.std.proofs.lemmas.List.Folds.{fold-map}
+use Rattle.std.proofs.lemmas.List.FromFn.{fill_by_all}
+use Rattle.std.proofs.lemmas.List.Sums.{fold-append}
 use Rattle.stages.specs.Journal.{journal, folded, folded_all}
 use Rattle.stages.specs.Meaning.{one_more}
 use Rattle.stages.proofs.journal.JournalStage.handle.Goals as goal
 
-pub loop-k-init : goal.loop-k-init
-loop-k-init g c = ap (λ n. folded_all n (g.E.Event.words c.args.event.now)) c.fold-code.ensures
-
-pub loop-k-preserved : goal.loop-k-preserved
-loop-k-preserved g c =
-    let words = g.E.Event.words c.args.event.now in
-    let k = c.loop-k.k in
-    let rest = drop (k + 1) words in
-    let read = c.word.ensures in
-    let step = c.fold-code-in-loop-k.ensures in
-    let more : folded_all c.loop-k.code (drop k words) ≡ folded_all (folded c.loop-k.code (get_or words k 0)) rest = at_drop_more (folded_all c.loop-k.code) words k 0 (omega arith) in
-    ap (λ n. folded_all n rest) (step ∙ ap (folded c.loop-k.code) read) ∙ sym more ∙ c.loop-k.invariant
-
 pub returns : goal.returns
 returns g c =
     let words = g.E.Event.words c.args.event.now in
-    let done : folded_all c.loop-k.code (drop c.loop-k.k words) ≡ c.loop-k.code = at_drop_all (folded_all c.loop-k.code) words c.loop-k.k (omega arith) in
-    let code : c.loop-k.code ≡ folded_all (folded 0 c.args.sequence) words = sym done ∙ c.loop-k.invariant in
-    let digest : c.fold-self.result ≡ folded c.args.self.now.digest (folded_all (folded 0 c.args.sequence) words) = c.fold-self.ensures ∙ ap (folded c.args.self.now.digest) (c.from.ensures ∙ code) in
-    record { grows = ap (λ n. journal (one_more c.args.self.now.handled ∷ n ∷ [])) digest; mark = code }
+    let n = c.count.result in
+    let start = c.folded-start.result in
+    let h : ℕ → ℕ → ℕ = λ b k. folded b (slice_index words k) in
+    let run : c.fold-code.result ≡ fold h start (range_with_len 0 n) =
+    fold_over nat_range_steps (λ x. x) _ (λ ys b. b ≡ fold h start ys) _
+    (λ ys a x b f' j k. (let gives : b ≡ h a x = search rules in gives ∙ ap (λ m. h m x) j ∙ sym (fold-append h start ys (x ∷ [])), search rules))
+    _ (range_with_len 0 n) start c.fold-code.result (YieldsList-from_range 0 n n refl (omega arith)).runs refl c.fold-code.ensures.ran in
+    let read : folded_all start words ≡ fold h start (range_with_len 0 n) =
+    ap (folded_all start) (fill_by_all (slice_index words) words n 0 (sym c.count.ensures) (λ k below. refl)) ∙ fold-map folded (slice_index words) start (range_with_len 0 n) in
+    let code : c.fold-code.result ≡ folded_all (folded 0 c.args.sequence) words = run ∙ sym read ∙ ap (λ m. folded_all m words) c.folded-start.ensures in
+    let digest : c.folded-self.result ≡ folded c.args.self.now.digest (folded_all (folded 0 c.args.sequence) words) = c.folded-self.ensures ∙ ap (folded c.args.self.now.digest) (c.from.ensures ∙ code) in
+    record { grows = ap (λ m. journal (one_more c.args.self.now.handled ∷ m ∷ [])) digest; mark = code }
