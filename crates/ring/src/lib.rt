@@ -2,7 +2,7 @@
 
 #![tactic(auto)]
 
-ghost use Rattle.std.specs.Prelude.{◌≡◌, ◌%◌, ◌^◌, ◌==◌, ◌&&◌, Some, None, if◌then◌else◌, length, nat_lt};
+ghost use Rattle.std.specs.Prelude.{◌≡◌, ◌%◌, ◌^◌, ◌<◌, ◌==◌, ◌&&◌, Some, None, if◌then◌else◌, length, nat_lt, slice_set};
 ghost use Rattle.events.specs.Refusals.{reply};
 ghost use Rattle.ring.specs.Ring.{checked, event_at, is_mark, made_events, made_marks, mark_at, marked, place, row_at, written};
 ghost use Rattle.stages.specs.Marks.{shown};
@@ -80,7 +80,7 @@ impl<'a, E: Event> Ring<'a, E> {
         ensures same_marks { self.new.marks.ghost_name ≡ self.old.marks.ghost_name }
     {
         if let Some(slot) = self.slot(s) {
-            self.events[slot] = event;
+            write_slot(self.events, slot, event);
         }
     }
 
@@ -104,7 +104,7 @@ impl<'a, E: Event> Ring<'a, E> {
         if let Some(at) = self.place(s, i)
             && at < self.marks.len()
         {
-            self.marks[at] = mark;
+            write_slot(self.marks, at, mark);
         }
     }
 
@@ -132,4 +132,12 @@ impl<'a, E: Event> Ring<'a, E> {
         }
         self.slot(s)?.checked_mul(8)?.checked_add(i)
     }
+}
+
+// Writes an element of a slice: a ring hands its slices to it, the one place where a slot of an event or a mark is written.
+fn write_slot<T: Copy>(slots: &mut [T], k: usize, value: T)
+    requires { k < length slots.old }
+    ensures { slots.new ≡ slice_set slots.old k value }
+{
+    slots[k] = value;
 }
