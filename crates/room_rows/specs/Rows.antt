@@ -1,26 +1,23 @@
--- Worked rows of the room: what its definitions answer to two short lists of calls. Assumes nothing.
-use Rattle.std.specs.Prelude.{◌≡◌, ℕ, ◌*◌, Bool, false, List, [], ◌∷◌, replicate}
+-- Worked rows of the room: what its definitions answer to short lists of calls; and all worked rows together. Assumes nothing.
+use Rattle.std.specs.Prelude.{◌≡◌, ℕ, ◌-◌, ◌*◌, ◌^◌, Bool, false, List, [], ◌∷◌, replicate}
 use Rattle.events.specs.Refusals.{Reply, accepted, refused}
 use Rattle.machine.specs.Calls.{Call, answers_to, claim, commit, gate, handle, look, publish, write}
 use Rattle.machine.specs.Machine.{Room, room_made}
 use Rattle.playout.specs.Plan.{Layout}
-use Rattle.stages.specs.Meaning.{Given, Meaning, mark_of}
+use Rattle.stages.specs.Meaning.{Meaning, mark_of}
+use Rattle.worked.specs.Rows.{WorkedRows, event}
 
--- an event as a stage receives it, shown no marks
-abbrev pub event : ℕ → List ℕ → Given
-event sequence words = record { sequence = sequence; words = words; marks = replicate 8 0 }
-
--- one stage, from sequence 0
-abbrev pub one_plan : Layout
-one_plan = record { start = 0; stages = 1; masks = replicate 8 0 }
+-- one stage, from a start
+abbrev pub one_plan : ℕ → Layout
+one_plan start = record { start = start; stages = 1; masks = replicate 8 0 }
 
 abbrev pub answers_by : Reply Room → ℕ → Meaning → List Call → List (Reply ℕ)
 answers_by (accepted room) capacity stage calls = answers_to (record { room = room; slots = replicate capacity []; marks = replicate (8 * capacity) 0; bank = stage ∷ [] }) calls
 answers_by (refused n) capacity stage calls = refused n ∷ []
 
 -- the answers of a room with one stage, on a ring with nothing in it
-abbrev pub room_answers : Bool → ℕ → ℕ → Meaning → List Call → List (Reply ℕ)
-room_answers ordered capacity producers stage calls = answers_by (room_made ordered one_plan capacity producers) capacity stage calls
+abbrev pub room_answers : ℕ → Bool → ℕ → ℕ → Meaning → List Call → List (Reply ℕ)
+room_answers start ordered capacity producers stage calls = answers_by (room_made ordered (one_plan start) capacity producers) capacity stage calls
 
 -- With one slot, in order or not, whatever the event and the stage: while the first event holds the slot, the next claim
 -- finds no place; nor does it once the stage has committed, until the producer has passed the gate.
@@ -40,6 +37,14 @@ abbrev pub two_producers_answers : List (Reply ℕ)
 two_producers_answers =
     accepted 0 ∷ accepted 2 ∷ accepted 2 ∷ accepted 3 ∷ accepted 0 ∷ accepted 0 ∷ accepted 1 ∷ accepted 2 ∷ accepted 3 ∷ []
 
+-- At the start 2^62 sequences have run out, and a claim of 1 is refused; from one before it, one is left.
 pub record RoomRows : Type 0 where
-  pub one_slot : (ordered : Bool) (stage : Meaning) (words : List ℕ) → room_answers ordered 1 1 stage (one_slot_calls words) ≡ one_slot_answers (mark_of stage (event 0 words))
-  pub two_producers : (stage : Meaning) (words : List ℕ) → room_answers false 4 2 stage (two_producers_calls words) ≡ two_producers_answers
+  pub one_slot : (ordered : Bool) (stage : Meaning) (words : List ℕ) → room_answers 0 ordered 1 1 stage (one_slot_calls words) ≡ one_slot_answers (mark_of stage (event 0 words))
+  pub two_producers : (stage : Meaning) (words : List ℕ) → room_answers 0 false 4 2 stage (two_producers_calls words) ≡ two_producers_answers
+  pub out : (ordered : Bool) (stage : Meaning) → room_answers (2 ^ 62) ordered 1 1 stage (claim 0 1 ∷ []) ≡ refused 18 ∷ []
+  pub last : (ordered : Bool) (stage : Meaning) → room_answers (2 ^ 62 - 1) ordered 1 1 stage (claim 0 1 ∷ []) ≡ accepted (2 ^ 62 - 1) ∷ []
+
+-- all worked rows, of the layers below and of the room
+pub record AllRows : Type 0 where
+  pub layers : WorkedRows
+  pub rooms : RoomRows

@@ -2,12 +2,22 @@
 
 #![tactic(auto)]
 
-ghost use Rattle.room_rows.specs.Rows.{RoomRows};
+ghost use Rattle.room_rows.specs.Rows.{AllRows, RoomRows};
+
+use worked::worked_rows;
 
 // The worked rows of the room are true of the definitions.
 pub fn room_rows()
     ensures { RoomRows }
 {}
+
+// All worked rows are, of the layers below and of the room.
+pub fn all_rows()
+    ensures { AllRows }
+{
+    worked_rows();
+    room_rows();
+}
 
 #[cfg(test)]
 mod tests {
