@@ -1,16 +1,9 @@
 -- Sets of sequences: whether some or all are in one, and the least. Assumes nothing.
 use Rattle.std.proofs.Common.{◌≡◌, ℕ, zero, suc, ◌+◌, ◌-◌, ◌<◌, ◌≤◌, Bool, true, false, cond, ◌&&◌, ◌||◌, ltb, leb, ◌⊎◌, sym, refl, ap, ◌∙◌, inl, inr, add-zero, add-one, arith}
+use Rattle.std.proofs.Math.Bool.{and-false, or-true}
 use Rattle.std.proofs.lemmas.Bool.Decides.{nat_tests}
 use Rattle.std.proofs.lemmas.Bool.{and_parts, cases_lt, le-ltb, leb-true, lt-ltb, ltb-true, true≢false}
 use Rattle.sequencer.specs.Sequencer.{all_from, between, least_from, some_below}
-
-or_true : (b : Bool) → (b || true) ≡ true
-or_true true = refl
-or_true false = refl
-
-and_false : (b : Bool) → (b && false) ≡ false
-and_false true = refl
-and_false false = refl
 
 -- the sequences from one to another
 pub between_in : (from upto s : ℕ) → from ≤ s → s < upto → between from upto s ≡ true
@@ -42,7 +35,7 @@ some_has set zero s h e = absurd (omega arith)
 some_has set (suc n) s h e = go (cases_lt s n) (λ low. some_has set n s low e)
   where
     go : (s < n) ⊎ (n ≤ s) → (s < n → some_below set n ≡ true) → (set n || some_below set n) ≡ true
-    go (inl low) lower = ap (λ b. set n || b) (lower low) ∙ or_true (set n)
+    go (inl low) lower = ap (λ b. set n || b) (lower low) ∙ or-true (set n)
     go (inr high) lower = let same : n ≡ s = omega arith in ap (λ b. b || some_below set n) (ap set same ∙ e)
 
 pub all_in : (set : ℕ → Bool) (lo n : ℕ) → ((k : ℕ) → k < n → set (lo + k) ≡ true) → all_from set lo n ≡ true
@@ -56,7 +49,7 @@ all_but set lo zero k h e = absurd (omega arith)
 all_but set lo (suc n) k h e = go (cases_lt k n) (λ low. all_but set lo n k low e)
   where
     go : (k < n) ⊎ (n ≤ k) → (k < n → all_from set lo n ≡ false) → (set (lo + n) && all_from set lo n) ≡ false
-    go (inl low) lower = ap (λ b. set (lo + n) && b) (lower low) ∙ and_false (set (lo + n))
+    go (inl low) lower = ap (λ b. set (lo + n) && b) (lower low) ∙ and-false (set (lo + n))
     go (inr high) lower = let same : n ≡ k = omega arith in ap (λ b. b && all_from set lo n) (ap (λ m. set (lo + m)) same ∙ e)
 
 -- none before s + k, and there one is in the set or the sequences end
@@ -125,7 +118,7 @@ all_next set lo s h all here =
 pub all_false : (set : ℕ → Bool) (lo hi s : ℕ) → lo ≤ s → s < hi → set s ≡ false → false ≡ (ltb lo hi && all_from set lo (hi - lo))
 all_false set lo hi s from upto out =
     let same : lo + (s - lo) ≡ s = omega arith in
-    sym (ap (λ b. ltb lo hi && b) (all_but set lo (hi - lo) (s - lo) (omega arith) (ap set same ∙ out)) ∙ and_false (ltb lo hi))
+    sym (ap (λ b. ltb lo hi && b) (all_but set lo (hi - lo) (s - lo) (omega arith) (ap set same ∙ out)) ∙ and-false (ltb lo hi))
 
 pub all_true : (set : ℕ → Bool) (lo hi n : ℕ) → lo < hi → n ≡ hi - lo → all_from set lo n ≡ true → true ≡ (ltb lo hi && all_from set lo (hi - lo))
 all_true set lo hi n some e all = sym (ap (λ b. b && all_from set lo (hi - lo)) (lt-ltb lo hi some) ∙ ap (all_from set lo) (sym e) ∙ all)
