@@ -19,7 +19,7 @@ pub struct Claims {
 }
 
 impl Claims {
-    ghost use Rattle.std.specs.Prelude.{Bool, false};
+    ghost use Rattle.std.specs.Prelude.{Bool, false, IfOk};
     ghost use Rattle.events.specs.Refusals.{replied, reply};
     ghost use Rattle.sequencer.specs.Claims.{claim_end, sequencing};
     ghost use Rattle.sequencer.specs.Sequencer.{fresh};
@@ -27,7 +27,8 @@ impl Claims {
     // No claims yet.
     #[tactic(auto, using(limits::proofs::Capacities::capacity_some, limits::proofs::Capacities::capacity_most))]
     pub fn new(capacity: u64, start: u64) -> Result<Claims, Refusal>
-        ensures { (ordered : Bool) → replied (sequencing ordered (λ _. false)) result ≡ fresh ordered capacity start }
+        ensures value { (ordered : Bool) → replied (sequencing ordered (λ _. false)) result ≡ fresh ordered capacity start }
+        ensures none { IfOk result (λ claims. claims.next ≡ claims.start) }
     {
         if !is_capacity(capacity) {
             return Err(Refusal::Capacity);
