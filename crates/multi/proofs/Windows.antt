@@ -1,16 +1,16 @@
 -- What the rounds say of the sequences in the window below next. Assumes nothing.
-use Rattle.std.specs.Prelude.{◌≡◌, ℕ, zero, suc, ◌+◌, ◌-◌, ◌*◌, ◌%◌, ◌<◌, ◌≤◌, Bool, true, false, not, ◌&&◌, ◌||◌, ◌≢◌, ◌⊎◌, List, length, ◌==◌, nat_eq, slice_index, slice_index_or, slice_set, refl}
+use Rattle.std.specs.Prelude.{◌≡◌, ℕ, zero, suc, ◌+◌, ◌-◌, ◌*◌, ◌/◌, ◌%◌, ◌<◌, ◌≤◌, Bool, true, false, not, ◌&&◌, ◌||◌, ◌≢◌, ◌⊎◌, List, length, ◌==◌, nat_eq, nat_lt, replicate, slice_index, slice_index_or, slice_set, refl}
 use Rattle.std.proofs.Common.{sym, ap, ◌∙◌, inl, inr, mod-lt, arith}
 use Rattle.std.proofs.Math.Path.{fun_ext}
 use Rattle.std.proofs.Math.Nat.{div-add-mod}
 use Rattle.limits.proofs.Slots.{slot_apart}
-use Rattle.std.proofs.lemmas.List.{get_or-set_same, get_or-set_other, length-set}
-use Rattle.std.proofs.lemmas.Bool.{cases_lt, eq-eqb, eqb-false, eqb-true, ne_eqb}
+use Rattle.std.proofs.lemmas.List.{get_or-replicate, get_or-set_same, get_or-set_other, length-set}
+use Rattle.std.proofs.lemmas.Bool.{and_parts, cases_eq, cases_lt, eq-eqb, ltb-true, ne_eqb}
 use Rattle.std.proofs.lemmas.Bool.Decides.{nat_tests}
 use Rattle.multi.specs.Rounds.{oldest, open_by, round_of, rounds_after}
-use Rattle.multi.specs.Within.{open_below, open_past}
-use Rattle.sequencer.specs.Sequencer.{between}
-use Rattle.sequencer.proofs.Sets.{between_below, between_in, between_past}
+use Rattle.multi.specs.Within.{open_below, open_past, open_window}
+use Rattle.sequencer.specs.Sequencer.{all_from, between, some_below}
+use Rattle.sequencer.proofs.Sets.{all_at, between_below, between_in, between_past, none_below}
 
 and_true : (b : Bool) → (b && true) ≡ b
 and_true true = refl
@@ -33,13 +33,16 @@ unfolding rounds_after
 after_length slots rounds lo zero = refl
 after_length slots rounds lo (suc n) = length-set (rounds_after slots rounds lo n) ((lo + n) % slots) (round_of slots (lo + n)) ∙ after_length slots rounds lo n
 
-pub after_more : (slots : ℕ) (rounds : List ℕ) (lo n : ℕ) → slice_set (rounds_after slots rounds lo n) ((lo + n) % slots) (round_of slots (lo + n)) ≡ rounds_after slots rounds lo (suc n)
+pub after_none : (slots : ℕ) (rounds : List ℕ) (lo : ℕ) → rounds ≡ rounds_after slots rounds lo (lo - lo)
 unfolding rounds_after
-after_more slots rounds lo n = refl
+after_none slots rounds lo = let none : 0 ≡ lo - lo = omega arith in ap (rounds_after slots rounds lo) none
 
-pub after_none : (slots : ℕ) (rounds : List ℕ) (lo : ℕ) → rounds ≡ rounds_after slots rounds lo 0
+pub after_more : (slots : ℕ) (rounds : List ℕ) (lo s : ℕ) → lo ≤ s → slice_set (rounds_after slots rounds lo (s - lo)) (s % slots) (s / slots + 1) ≡ rounds_after slots rounds lo (s + 1 - lo)
 unfolding rounds_after
-after_none slots rounds lo = refl
+after_more slots rounds lo s h =
+    let same : s ≡ lo + (s - lo) = omega arith in
+    let more : suc (s - lo) ≡ s + 1 - lo = omega arith in
+    ap (λ t. slice_set (rounds_after slots rounds lo (s - lo)) (t % slots) (round_of slots t)) same ∙ ap (rounds_after slots rounds lo) more
 
 -- a slot that none of them has keeps its round
 pub after_other : (slots : ℕ) (rounds : List ℕ) (lo n i : ℕ) → ((k : ℕ) → k < n → i ≢ (lo + k) % slots) → slice_index (rounds_after slots rounds lo n) i ≡ slice_index rounds i
@@ -66,34 +69,33 @@ after_own slots rounds lo (suc n) k some table few h = go (cases_lt k n) (λ low
         ∙ ap (λ m. round_of slots (lo + m)) (sym same)
 
 -- every round is that of a claimed sequence
-pub rounds_claimed : (slots : ℕ) (rounds : List ℕ) (lo n next : ℕ) → 1 ≤ slots → slots ≤ length rounds → lo + n ≤ next → ((i : ℕ) → i < slots → slice_index rounds i * slots + i < next + slots) → (i : ℕ) → i < slots → slice_index (rounds_after slots rounds lo n) i * slots + i < next + slots
+rounds_claimed : (slots : ℕ) (rounds : List ℕ) (lo n next : ℕ) → 1 ≤ slots → slots ≤ length rounds → lo + n ≤ next → ((i : ℕ) → i < slots → slice_index rounds i * slots + i < next + slots) → (i : ℕ) → i < slots → slice_index (rounds_after slots rounds lo n) i * slots + i < next + slots
 unfolding rounds_after
 rounds_claimed slots rounds lo zero next some table end each i h = each i h
 rounds_claimed slots rounds lo (suc n) next some table end each i h =
-    go (i == (lo + n) % slots) refl (rounds_claimed slots rounds lo n next some table (omega arith) each i h)
+    go (cases_eq i ((lo + n) % slots)) (rounds_claimed slots rounds lo n next some table (omega arith) each i h)
   where
-    go : (b : Bool) → (i == (lo + n) % slots) ≡ b → slice_index (rounds_after slots rounds lo n) i * slots + i < next + slots → slice_index (slice_set (rounds_after slots rounds lo n) ((lo + n) % slots) (round_of slots (lo + n))) i * slots + i < next + slots
-    go true e before =
-        let same : i ≡ (lo + n) % slots = eqb-true i ((lo + n) % slots) e in
+    go : (i ≡ (lo + n) % slots) ⊎ (i ≡ (lo + n) % slots → ⊥) → slice_index (rounds_after slots rounds lo n) i * slots + i < next + slots → slice_index (slice_set (rounds_after slots rounds lo n) ((lo + n) % slots) (round_of slots (lo + n))) i * slots + i < next + slots
+    go (inl same) before =
         let value : slice_index_or (slice_set (rounds_after slots rounds lo n) ((lo + n) % slots) (round_of slots (lo + n))) i 0 ≡ round_of slots (lo + n) =
         ap (λ j. slice_index (slice_set (rounds_after slots rounds lo n) ((lo + n) % slots) (round_of slots (lo + n))) j) same
         ∙ get_or-set_same (rounds_after slots rounds lo n) ((lo + n) % slots) (round_of slots (lo + n)) 0 (omega (arith, after_length slots rounds lo n, mod-lt (lo + n) some)) in
         let sum : round_of slots (lo + n) * slots + (lo + n) % slots ≡ lo + n + slots = omega (arith, div-add-mod (lo + n) slots) in
         let whole : slice_index_or (slice_set (rounds_after slots rounds lo n) ((lo + n) % slots) (round_of slots (lo + n))) i 0 * slots ≡ round_of slots (lo + n) * slots = ap (λ r. r * slots) value in
         omega arith
-    go false e before =
-        let other = get_or-set_other (rounds_after slots rounds lo n) ((lo + n) % slots) i (round_of slots (lo + n)) 0 (eqb-false i ((lo + n) % slots) e) in
+    go (inr apart) before =
+        let other = get_or-set_other (rounds_after slots rounds lo n) ((lo + n) % slots) i (round_of slots (lo + n)) 0 apart in
         let whole = ap (λ r. r * slots + i) other in
         omega (arith, whole)
 
 -- the set when n more are claimed
-pub open_claimed : (slots start next n : ℕ) (rounds : List ℕ) → 1 ≤ slots → start ≤ next → n ≤ slots → ((i : ℕ) → i < slots → slice_index rounds i * slots + i < next + slots) → ((s : ℕ) → s < next + n - slots → open_by slots start next rounds s ≡ false) → open_by slots start (next + n) rounds ≡ (λ s. open_by slots start next rounds s || between next (next + n) s)
-open_claimed slots start next n rounds some begun few each closed = fun_ext (λ s. go s (cases_lt s next) (cases_lt s (next + n)) (cases_lt s (next + n - slots)))
+pub open_more : (slots start next n end : ℕ) (rounds : List ℕ) → 1 ≤ slots → start ≤ next → ((i : ℕ) → i < slots → slice_index rounds i * slots + i < next + slots) → n ≤ slots → end ≡ next + n → some_below (open_by slots start next rounds) (end - slots) ≡ false → (λ s. open_by slots start next rounds s || between next (next + n) s) ≡ open_by slots start end rounds
+open_more slots start next n end rounds some begun each few at closed = fun_ext (λ s. go s (cases_lt s next) (cases_lt s end) (cases_lt s (end - slots)))
   where
-    go : (s : ℕ) → (s < next) ⊎ (next ≤ s) → (s < next + n) ⊎ (next + n ≤ s) → (s < next + n - slots) ⊎ (next + n - slots ≤ s) → open_by slots start (next + n) rounds s ≡ (open_by slots start next rounds s || between next (next + n) s)
+    go : (s : ℕ) → (s < next) ⊎ (next ≤ s) → (s < end) ⊎ (end ≤ s) → (s < end - slots) ⊎ (end - slots ≤ s) → (open_by slots start next rounds s || between next (next + n) s) ≡ open_by slots start end rounds s
     go s (inl old) b (inl gone) =
-        let before = closed s gone in
-        let here = open_below slots start (next + n) rounds s (omega arith) in
+        let before = none_below (open_by slots start next rounds) (end - slots) s closed gone in
+        let here = open_below slots start end rounds s (omega arith) in
         grind (arith, nat_tests, before, here)
     go s (inl old) b (inr kept) = grind (arith, nat_tests)
     go s (inr new) (inl claimed) c =
@@ -130,3 +132,34 @@ open_fresh slots start rounds = fun_ext (λ s. go s (cases_lt s start))
     go : (s : ℕ) → (s < start) ⊎ (start ≤ s) → open_by slots start start rounds s ≡ false
     go s (inl low) = open_below slots start start rounds s (omega arith)
     go s (inr high) = open_past slots start start rounds s high
+
+pub rounds_fresh : (slots next : ℕ) → slots ≤ 256 → (i : ℕ) → i < slots → slice_index (replicate 256 0) i * slots + i < next + slots
+rounds_fresh slots next most i h = let none = ap (λ r. r * slots) (get_or-replicate {A = ℕ} 256 i 0 0 (omega arith)) in omega (arith, none)
+
+-- what is all open lies in the window
+record Within (slots start next lo hi : ℕ) : Type 0 where
+  some : lo < hi
+  low : oldest slots start next ≤ lo
+  high : hi ≤ next
+
+publish_window : (slots start next : ℕ) (rounds : List ℕ) (lo hi : ℕ) → true ≡ (nat_lt lo hi && all_from (open_by slots start next rounds) lo (hi - lo)) → Within slots start next lo hi
+publish_window slots start next rounds lo hi all =
+    let set : ℕ → Bool = open_by slots start next rounds in
+    let both = and_parts (nat_lt lo hi) (all_from set lo (hi - lo)) (sym all) in
+    let some : lo < hi = ltb-true lo hi both.0 in
+    let first = open_window slots start next rounds (lo + 0) (all_at set lo (hi - lo) 0 both.1 (omega arith)) in
+    let last = open_window slots start next rounds (lo + (hi - lo - 1)) (all_at set lo (hi - lo) (hi - lo - 1) both.1 (omega arith)) in
+    record { some = some; low = omega arith; high = omega arith }
+
+-- publishing what is all open
+module _ (slots start next lo hi : ℕ) (rounds after : List ℕ) (some : 1 ≤ slots) (table : slots ≤ length rounds) (all : true ≡ (nat_lt lo hi && all_from (open_by slots start next rounds) lo (hi - lo))) (left : after ≡ rounds_after slots rounds lo (hi - lo)) where
+  pub rounds_left : ((i : ℕ) → i < slots → slice_index rounds i * slots + i < next + slots) → (i : ℕ) → i < slots → slice_index after i * slots + i < next + slots
+  rounds_left each i h =
+      let window = publish_window slots start next rounds lo hi all in
+      let whole = ap (λ r. slice_index r i * slots) left in
+      omega (arith, whole, rounds_claimed slots rounds lo (hi - lo) next some table (omega arith) each i h)
+
+  pub open_fewer : (λ s. open_by slots start next rounds s && not (between lo hi s)) ≡ open_by slots start next after
+  open_fewer =
+      let window = publish_window slots start next rounds lo hi all in
+      sym (ap (open_by slots start next) left ∙ open_published slots start next lo hi rounds some table window.low (omega arith) window.high)

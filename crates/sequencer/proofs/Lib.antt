@@ -1,4 +1,4 @@
-pub mod ClaimEnds
+pub mod Calls
 pub mod OpenSets
 pub mod Sets
 pub mod Stepping

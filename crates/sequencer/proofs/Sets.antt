@@ -1,9 +1,10 @@
 -- Sets of sequences: whether some or all are in one, and the least. Assumes nothing.
-use Rattle.std.proofs.Common.{◌≡◌, ℕ, zero, suc, ◌+◌, ◌-◌, ◌<◌, ◌≤◌, Bool, true, false, cond, ◌&&◌, ◌||◌, ltb, leb, ◌⊎◌, sym, refl, ap, ◌∙◌, inl, inr, add-zero, add-one, arith}
+use Rattle.std.proofs.Common.{◌≡◌, ℕ, zero, suc, ◌+◌, ◌-◌, ◌<◌, ◌≤◌, max, Bool, true, false, cond, ◌&&◌, ◌||◌, ltb, leb, ◌⊎◌, sym, refl, ap, ◌∙◌, inl, inr, add-zero, add-one, arith}
 use Rattle.std.proofs.Math.Bool.{and-false, or-true}
 use Rattle.std.proofs.lemmas.Bool.Decides.{nat_tests}
-use Rattle.std.proofs.lemmas.Bool.{and_parts, cases_lt, le-ltb, leb-true, lt-ltb, ltb-true, true≢false}
-use Rattle.sequencer.specs.Sequencer.{all_from, between, least_from, some_below}
+use Rattle.std.specs.List.{list_all, list_any, range_with_len}
+use Rattle.std.proofs.lemmas.Bool.{and_parts, cases_Bool, cases_lt, le-ltb, leb-true, lt-ltb, ltb-true, true≢false}
+use Rattle.sequencer.specs.Sequencer.{Sequencing, all_from, between, first_open, least_from, some_below}
 
 -- the sequences from one to another
 pub between_in : (from upto s : ℕ) → from ≤ s → s < upto → between from upto s ≡ true
@@ -93,18 +94,6 @@ pub all_none : (set : ℕ → Bool) (lo : ℕ) → all_from set lo 0 ≡ true
 unfolding all_from
 all_none set lo = refl
 
-pub least_none : (set : ℕ → Bool) (s : ℕ) → least_from set s 0 ≡ s
-unfolding least_from
-least_none set s = refl
-
-pub least_here : (set : ℕ → Bool) (s n : ℕ) → set s ≡ true → least_from set s (suc n) ≡ s
-unfolding least_from
-least_here set s n e = ap (λ b. cond b s (least_from set (suc s) n)) e
-
-pub least_on : (set : ℕ → Bool) (s n : ℕ) → set s ≡ false → least_from set s (suc n) ≡ least_from set (suc s) n
-unfolding least_from
-least_on set s n e = ap (λ b. cond b s (least_from set (suc s) n)) e
-
 -- the steps of scans
 pub some_next : (set : ℕ → Bool) (s : ℕ) → some_below set s ≡ false → set s ≡ false → some_below set (s + 1) ≡ false
 some_next set s none out = ap (some_below set) (add-one s) ∙ some_more set s ∙ ap (λ b. b || some_below set s) out ∙ none
@@ -125,3 +114,62 @@ all_true set lo hi n some e all = sym (ap (λ b. b && all_from set lo (hi - lo))
 
 pub all_empty : (set : ℕ → Bool) (lo hi : ℕ) → hi ≤ lo → false ≡ (ltb lo hi && all_from set lo (hi - lo))
 all_empty set lo hi none = sym (ap (λ b. b && all_from set lo (hi - lo)) (le-ltb lo hi none))
+
+-- those in a range, by std's tests over its list
+all_front : (set : ℕ → Bool) (lo n : ℕ) → all_from set lo (suc n) ≡ (set lo && all_from set (lo + 1) n)
+unfolding all_from
+all_front set lo zero = ap (λ s. set s && true) (add-zero lo)
+all_front set lo (suc n) =
+    let rest = all_front set lo n in
+    let same : lo + suc n ≡ lo + 1 + n = omega arith in
+    grind (arith, ap set same)
+
+pub all_range : (set : ℕ → Bool) (lo n : ℕ) → list_all set (range_with_len lo n) ≡ all_from set lo n
+all_range set lo zero = sym (all_none set lo)
+all_range set lo (suc n) = ap (λ b. set lo && b) (all_range set (lo + 1) n) ∙ sym (all_front set lo n)
+
+some_from : (set : ℕ → Bool) (lo n : ℕ) → some_below set lo ≡ false → list_any set (range_with_len lo n) ≡ some_below set (lo + n)
+some_from set lo zero none = grind (arith, none)
+some_from set lo (suc n) none = go (cases_Bool (set lo)) (λ e. some_from set (lo + 1) n (some_next set lo none e))
+  where
+    go : (set lo ≡ true) ⊎ (set lo ≡ false) → (set lo ≡ false → list_any set (range_with_len (lo + 1) n) ≡ some_below set (lo + 1 + n)) → (set lo || list_any set (range_with_len (lo + 1) n)) ≡ some_below set (lo + suc n)
+    go (inl e) rest = grind (arith, some_has set (lo + suc n) lo (omega arith) e)
+    go (inr e) rest =
+        let same : lo + 1 + n ≡ lo + suc n = omega arith in
+        grind (arith, rest e, ap (some_below set) same)
+
+pub some_range : (set : ℕ → Bool) (lo hi : ℕ) → ((s : ℕ) → s < lo → set s ≡ false) → list_any set (range_with_len lo (hi - lo)) ≡ some_below set hi
+some_range set lo hi out = go (cases_lt lo hi)
+  where
+    go : (lo < hi) ⊎ (hi ≤ lo) → list_any set (range_with_len lo (hi - lo)) ≡ some_below set hi
+    go (inl some) = let same : lo + (hi - lo) ≡ hi = omega arith in some_from set lo (hi - lo) (some_none set lo out) ∙ ap (some_below set) same
+    go (inr none) = let same : hi - lo ≡ 0 = omega arith in ap (λ n. list_any set (range_with_len lo n)) same ∙ sym (some_none set hi (λ s h. out s (omega arith)))
+
+-- a scan for the first open one: it is here, further on, or nowhere before a later one
+pub first_here : (q : Sequencing) (s : ℕ) → s < q.next → q.is_open s ≡ true → first_open q s ≡ s
+unfolding least_from
+first_here q s low here =
+    let more : q.next - s ≡ suc (q.next - suc s) = omega arith in
+    grind (arith, nat_tests, here, ap (least_from q.is_open s) more)
+
+pub first_on : (q : Sequencing) (s : ℕ) → s < q.next → q.is_open s ≡ false → first_open q s ≡ first_open q (s + 1)
+unfolding least_from
+first_on q s low out =
+    let more : q.next - s ≡ suc (q.next - (s + 1)) = omega arith in
+    let end : q.next - (s + 1) ≡ 0 → least_from q.is_open (s + 1) (q.next - (s + 1)) ≡ s + 1 = λ e. ap (least_from q.is_open (s + 1)) e in
+    grind (arith, nat_tests, out, end, ap (least_from q.is_open s) more)
+
+first_skip : (q : Sequencing) (from k : ℕ) → from + k ≤ q.next → ((s : ℕ) → s < from + k → q.is_open s ≡ false) → first_open q from ≡ first_open q (from + k)
+first_skip q from zero h out = ap (first_open q) (sym (add-zero from))
+first_skip q from (suc k) h out =
+    let on : from + k + 1 ≡ from + suc k = omega arith in
+    first_skip q from k (omega arith) (λ s l. out s (omega arith)) ∙ first_on q (from + k) (omega arith) (out (from + k) (omega arith)) ∙ ap (first_open q) on
+
+pub first_from : (q : Sequencing) (from low : ℕ) → low ≤ q.next → ((s : ℕ) → s < low → q.is_open s ≡ false) → first_open q from ≡ first_open q (max from low)
+first_from q from low h out = go (cases_lt from low)
+  where
+    go : (from < low) ⊎ (low ≤ from) → first_open q from ≡ first_open q (max from low)
+    go (inl less) =
+        let at : from + (low - from) ≡ max from low = omega arith in
+        first_skip q from (low - from) (omega arith) (λ s l. out s (omega arith)) ∙ ap (first_open q) at
+    go (inr past) = let at : from ≡ max from low = omega arith in ap (first_open q) at
