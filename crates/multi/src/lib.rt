@@ -29,9 +29,8 @@ impl Multi {
     fn oldest(&self) -> u64
         ensures { result ≡ oldest_in self.now }
     {
-        self.claims
-            .start
-            .max(self.claims.next.saturating_sub(self.claims.slots))
+        let claims = &self.claims;
+        claims.start.max(claims.next.saturating_sub(claims.slots))
     }
 
     fn is_open(&self, s: u64) -> bool
@@ -126,7 +125,7 @@ impl Sequencer for Multi {
     fn first(&self, from: u64) -> u64 {
         let next = self.claims.next;
         let mut s = from.max(self.oldest());
-        // the sequence that the scan ends at is what the loop yields
+        // a loop, since the sequence at which it breaks is its value
         loop {
             if s >= next {
                 break next;
