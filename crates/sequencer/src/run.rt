@@ -51,6 +51,7 @@ pub fn agree<S: Sequencer, T: Sequencer>(one: &mut S, other: &mut T, steps: &[St
 {
     let mut same = true;
     for step in steps {
+        // both make every call, also after a first difference
         same &= take_step(one, *step) == take_step(other, *step);
     }
     same
