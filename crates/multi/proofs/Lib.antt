@@ -1,2 +1,1 @@
-pub mod Multis
 pub mod Windows

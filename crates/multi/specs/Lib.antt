@@ -1,2 +1,3 @@
+pub mod Open
 pub mod Rounds
 pub mod Within

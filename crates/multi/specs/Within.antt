@@ -1,8 +1,7 @@
 -- That what is open lies in the window below next, which the law of the sequencer cites: an `impl` may cite of its own crate
 -- only what stands in specs/. Lemmas, with their proofs; nothing to believe. Assumes nothing.
-use Rattle.std.specs.Prelude.{◌≡◌, ℕ, ◌<◌, ◌≤◌, ◌⊎◌, true, false, List}
-use Rattle.std.proofs.Common.{sym, ◌∙◌, inl, inr, arith}
-use Rattle.std.proofs.lemmas.Bool.{cases_lt, true≢false}
+use Rattle.std.specs.Prelude.{◌≡◌, ℕ, ◌<◌, ◌≤◌, true, false, List}
+use Rattle.std.proofs.Common.{arith}
 use Rattle.std.proofs.lemmas.Bool.Decides.{nat_tests}
 use Rattle.multi.specs.Rounds.{oldest, open_by}
 
@@ -14,12 +13,4 @@ pub open_past : (slots start next : ℕ) (rounds : List ℕ) (s : ℕ) → next 
 open_past slots start next rounds s h = grind (arith, nat_tests)
 
 pub open_window : (slots start next : ℕ) (rounds : List ℕ) (s : ℕ) → open_by slots start next rounds s ≡ true → (oldest slots start next ≤ s) × (s < next)
-open_window slots start next rounds s e = (low (cases_lt s (oldest slots start next)), high (cases_lt s next))
-  where
-    low : (s < oldest slots start next) ⊎ (oldest slots start next ≤ s) → oldest slots start next ≤ s
-    low (inl below) = absurd (true≢false (sym e ∙ open_below slots start next rounds s below))
-    low (inr h) = h
-
-    high : (s < next) ⊎ (next ≤ s) → s < next
-    high (inl h) = h
-    high (inr past) = absurd (true≢false (sym e ∙ open_past slots start next rounds s past))
+open_window slots start next rounds s e = (grind (arith, nat_tests), grind (arith, nat_tests))

@@ -1,3 +1,4 @@
+pub mod Calls
 pub mod OpenSets
 pub mod Sets
 pub mod Stepping

@@ -3,6 +3,7 @@ use Rattle.std.proofs.Common.{◌≡◌, ℕ, suc, ◌+◌, ◌<◌, Bool, true,
 use Rattle.events.specs.Refusals.{Reply, accepted, refused, reply}
 use Rattle.events.specs.declared.refusal.Refusal.{Refusal}
 use Rattle.std.proofs.lemmas.List.{at_drop_more}
+use Rattle.std.proofs.Math.Bool.{and_assoc}
 use Rattle.std.proofs.lemmas.Bool.{eq-eqb}
 use Rattle.sequencer.specs.Runs.{accepted_in, after_steps, alike, history, one_if, same_reply, stepped}
 use Rattle.sequencer.specs.Sequencer.{Left, Sequencing}
@@ -42,14 +43,11 @@ alike_self q (step ∷ steps) = ap (λ b. b && alike (stepped q step).after (ste
 pub alike_twins : (q p : Sequencing) (steps : List Step) → q ≡ p → alike q p steps ≡ true
 alike_twins q p steps same = ap (λ x. alike q x steps) (sym same) ∙ alike_self q steps
 
-and_assoc : (a b c : Bool) → ((a && b) && c) ≡ (a && (b && c))
-and_assoc true b c = refl
-and_assoc false b c = refl
-
-pub alike_on : (q p : Sequencing) (steps : List Step) (k : ℕ) (d : Step) (a b : Left) (before : Bool) (end : Bool) → k < length steps → a ≡ stepped q (get_or steps k d) → b ≡ stepped p (get_or steps k d) → (before && alike q p (drop k steps)) ≡ end → ((before && same_reply a.answer b.answer) && alike a.after b.after (drop (k + 1) steps)) ≡ end
-alike_on q p steps k d a b before end within ta tb inv =
+pub alike_on : (q p : Sequencing) (steps : List Step) (k : ℕ) (d : Step) (a b : Left) (before here : Bool) (end : Bool) → k < length steps → a ≡ stepped q (get_or steps k d) → b ≡ stepped p (get_or steps k d) → here ≡ same_reply a.answer b.answer → (before && alike q p (drop k steps)) ≡ end → ((before && here) && alike a.after b.after (drop (k + 1) steps)) ≡ end
+alike_on q p steps k d a b before here end within ta tb same inv =
     let split : alike q p (drop k steps) ≡ (same_reply (stepped q (get_or steps k d)).answer (stepped p (get_or steps k d)).answer && alike (stepped q (get_or steps k d)).after (stepped p (get_or steps k d)).after (drop (k + 1) steps)) = at_drop_more (alike q p) steps k d within in
     let both : Left → Left → Bool = λ x y. same_reply x.answer y.answer && alike x.after y.after (drop (k + 1) steps) in
-    and_assoc before (same_reply a.answer b.answer) (alike a.after b.after (drop (k + 1) steps))
+    and_assoc before here (alike a.after b.after (drop (k + 1) steps))
+    ∙ ap (λ x. before && (x && alike a.after b.after (drop (k + 1) steps))) same
     ∙ ap (λ x. before && x) (ap (λ x. both x b) ta ∙ ap (both (stepped q (get_or steps k d))) tb ∙ sym split)
     ∙ inv

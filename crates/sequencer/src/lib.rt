@@ -9,6 +9,7 @@ ghost use Rattle.sequencer.specs.Sequencer.{Sequencing, claimed, first_open, fre
 
 use events::refusal::Refusal;
 
+pub mod claims;
 pub mod run;
 
 // Hands out sequences to claims, and knows which of them are open, that is, claimed and not published.

@@ -2,59 +2,47 @@
 
 #![tactic(auto)]
 
-ghost use Rattle.std.specs.Prelude.{◌≡◌, ◌+◌, ◌^◌, ◌≤◌, true};
-ghost use Rattle.limits.specs.Capacity.{is_capacity};
+ghost use Rattle.std.specs.Prelude.{◌≡◌, ◌+◌, ◌≤◌, true};
+ghost use Rattle.sequencer.specs.Claims.{sequencing};
 ghost use Rattle.sequencer.specs.Sequencer.{between};
 ghost use Rattle.sequencer.proofs.Sets.{between_parts};
 
 use events::refusal::Refusal;
-use limits::{SEQUENCE_END, is_capacity};
 use sequencer::Sequencer;
+use sequencer::claims::Claims;
 
-// Sequences from `published` to below `next` are open.
+// Sequences from `published` to below the first unclaimed one are open.
 #[derive(Drop)]
 pub struct Single {
-    slots: u64,
-    start: u64,
+    claims: Claims,
     published: u64,
-    next: u64,
-    ghost capacity: { is_capacity slots ≡ true },
-    ghost some: { 1 ≤ slots },
-    ghost most: { slots ≤ 256 },
-    ghost begun: { start ≤ published },
-    ghost behind: { published ≤ next },
-    ghost bounded: { next ≤ 2 ^ 62 },
-    ghost within: { next ≤ published + slots },
+    ghost begun: { claims.start ≤ published },
+    ghost behind: { published ≤ claims.next },
+    ghost within: { claims.next ≤ published + claims.slots },
 }
 
+#[tactic(auto, using(crate::proofs::Singles::one_cursor))]
 impl Sequencer for Single {
-    ghost means = { λ q. record { slots = q.slots; start = q.start; ordered = true; next = q.next; is_open = between q.published q.next } };
+    ghost means = { λ q. sequencing true (between q.published q.claims.next) q.claims };
 
     ghost ordered = { true };
 
-    ghost open_below_next = { λ q s open1. (between_parts q.published q.next s open1).1 };
+    ghost open_below_next = { λ q s open1. (between_parts q.published q.claims.next s open1).1 };
 
     fn fresh(capacity: u64, start: u64) -> Result<Single, Refusal> {
-        if !is_capacity(capacity) {
-            return Err(Refusal::Capacity);
-        }
-        if start > SEQUENCE_END {
-            return Err(Refusal::Start);
-        }
+        let claims = Claims::new(capacity, start)?;
         Ok(Single {
-            slots: capacity,
-            start,
-            published: start,
-            next: start,
+            published: claims.start,
+            claims,
         })
     }
 
     fn capacity(&self) -> u64 {
-        self.slots
+        self.claims.slots
     }
 
     fn start(&self) -> u64 {
-        self.start // the first of all
+        self.claims.start // the first of all
     }
 
     fn in_order(&self) -> bool {
@@ -62,31 +50,21 @@ impl Sequencer for Single {
     }
 
     fn next(&self) -> u64 {
-        self.next // the first unclaimed
+        self.claims.next // the first unclaimed
     }
 
     fn claim(&mut self, n: u64, gate: u64) -> Result<u64, Refusal> {
-        if n == 0 || n > self.slots {
-            return Err(Refusal::Amount);
-        }
-        let first = self.next;
-        if n > SEQUENCE_END - first {
-            return Err(Refusal::SequencesExhausted);
-        }
-        let end = first + n;
-        if end.saturating_sub(self.slots) > gate.min(self.published) {
+        let end = self.claims.end_of(n)?;
+        if end.saturating_sub(self.claims.slots) > gate.min(self.published) {
             return Err(Refusal::NoPlace);
         }
-        self.next = end;
+        let first = self.claims.next;
+        self.claims.next = end;
         Ok(first)
     }
 
     fn publish(&mut self, lo: u64, hi: u64) -> Result<u64, Refusal> {
-        if lo != self.published {
-            return Err(Refusal::NotOpen);
-        }
-        let next = self.next;
-        if hi <= lo || hi > next {
+        if lo != self.published || hi <= lo || hi > self.claims.next {
             return Err(Refusal::NotOpen);
         }
         self.published = hi;
@@ -94,6 +72,6 @@ impl Sequencer for Single {
     }
 
     fn first(&self, from: u64) -> u64 {
-        from.max(self.published).min(self.next)
+        from.max(self.published).min(self.claims.next)
     }
 }

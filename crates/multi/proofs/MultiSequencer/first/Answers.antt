@@ -1,26 +1,24 @@
-use Rattle.std.proofs.Common.{◌≡◌, ◌+◌, ◌-◌, sym, ap, ◌∙◌, ⊎_elim, add-one, arith}
-use Rattle.std.proofs.lemmas.Bool.{cases_lt}
-use Rattle.multi.specs.Rounds.{oldest}
+use Rattle.std.proofs.Common.{◌≡◌, max, false, sym, ap, ◌∙◌, arith}
+use Rattle.multi.specs.Open.{oldest_in, open_in}
+use Rattle.multi.specs.Within.{open_below}
+use Rattle.sequencer.specs.Claims.{sequencing}
 use Rattle.sequencer.specs.Sequencer.{first_open}
-use Rattle.multi.proofs.Multis.{first_here, first_on, first_skip, q}
+use Rattle.sequencer.proofs.Sets.{first_from, first_here, first_on}
 use Rattle.multi.proofs.MultiSequencer.first.Goals as goal
 
 pub loop-s-init : goal.loop-s-init
 loop-s-init c =
     let m = c.args.self.now in
-    let low = oldest m.slots m.start m.next in
-    let from = c.args.from in
-    ⊎_elim
-    (λ h. let at : from + (low - from) ≡ c.max-s.result = omega arith in first_skip m.slots m.start m.next m.rounds from (low - from) (omega arith) (omega arith) ∙ ap (first_open (q m.slots m.start m.next m.rounds)) at)
-    (λ h. let at : from ≡ c.max-s.result = omega arith in ap (first_open (q m.slots m.start m.next m.rounds)) at)
-    (cases_lt from low)
+    let q = sequencing false (open_in m) m.claims in
+    let at : max c.args.from (oldest_in m) ≡ c.max-s.result = omega arith in
+    first_from q c.args.from (oldest_in m) (omega arith) (open_below m.claims.slots m.claims.start m.claims.next m.rounds) ∙ ap (first_open q) at
 
 pub loop-s-preserved : goal.loop-s-preserved
 loop-s-preserved c =
     let m = c.args.self.now in
-    c.loop-s.invariant ∙ first_on m.slots m.start m.next m.rounds c.loop-s.s (omega arith) (sym c.if-is_open.ensures) ∙ ap (first_open (q m.slots m.start m.next m.rounds)) (sym (add-one c.loop-s.s))
+    c.loop-s.invariant ∙ first_on (sequencing false (open_in m) m.claims) c.loop-s.s (omega arith) (sym c.if-is_open.ensures)
 
 pub returns-then-is_open : goal.returns-then-is_open
 returns-then-is_open c =
     let m = c.args.self.now in
-    sym (c.loop-s.invariant ∙ first_here m.slots m.start m.next m.rounds c.loop-s.s (omega arith) (sym c.if-is_open.ensures))
+    sym (c.loop-s.invariant ∙ first_here (sequencing false (open_in m) m.claims) c.loop-s.s (omega arith) (sym c.if-is_open.ensures))

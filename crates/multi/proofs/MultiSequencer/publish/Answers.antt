@@ -1,36 +1,21 @@
-use Rattle.std.proofs.Common.{ℕ, ◌+◌, ◌-◌, ◌*◌, ◌<◌, false, List, length, get_or, sym, ap, ◌∙◌, subst, arith}
-use Rattle.events.specs.Refusals.{accepted}
-use Rattle.multi.specs.Rounds.{open_by}
-use Rattle.sequencer.specs.Sequencer.{Left}
-use Rattle.multi.proofs.Multis.{publish_accepted, publish_window}
-use Rattle.multi.proofs.Windows.{after_length, rounds_claimed}
+use Rattle.std.proofs.Common.{◌-◌, false, length, ap, ◌∙◌, arith}
+use Rattle.std.proofs.lemmas.Bool.Decides.{nat_tests}
+use Rattle.sequencer.specs.Claims.{sequencing}
+use Rattle.sequencer.proofs.Calls.{publish_leaves}
+use Rattle.multi.specs.Open.{open_in}
+use Rattle.multi.proofs.Windows.{after_length, open_fewer, rounds_left}
 use Rattle.multi.proofs.MultiSequencer.publish.Goals as goal
-
-pub publish_rounds-requires : goal.publish_rounds-requires
-publish_rounds-requires c =
-    let m = c.args.self.now in
-    let window = publish_window m.slots m.start m.next m.rounds c.args.lo c.args.hi c.if-not-all_open.ensures in
-    record { some = m.some; most = m.most; rising = omega arith; bounded = omega (arith, m.bounded) }
 
 pub invariant_of-self : goal.invariant_of-self
 invariant_of-self c =
     let m = c.args.self.now in
-    let n = c.args.hi - c.args.lo in
-    let window = publish_window m.slots m.start m.next m.rounds c.args.lo c.args.hi c.if-not-all_open.ensures in
-    let each = rounds_claimed m.slots m.rounds c.args.lo n m.next m.some (omega (arith, m.most, m.table)) (omega arith) m.rounded in
     record {
-      capacity = m.capacity;
-      some = m.some;
-      most = m.most;
-      begun = m.begun;
-      bounded = m.bounded;
-      table = ap length c.publish_rounds.ensures ∙ after_length m.slots m.rounds c.args.lo n ∙ m.table;
-      rounded = subst (λ (r : List ℕ). (i : ℕ) → i < m.slots → get_or r i 0 * m.slots + i < m.next + m.slots) (sym c.publish_rounds.ensures) each;
+      table = ap length c.publish_rounds.ensures ∙ after_length m.claims.slots m.rounds c.args.lo (c.args.hi - c.args.lo) ∙ m.table;
+      rounded = rounds_left m.claims.slots m.claims.start m.claims.next c.args.lo c.args.hi m.rounds _ m.claims.some (omega (arith, m.table, m.claims.most)) c.if-not-all_open.ensures c.publish_rounds.ensures m.rounded;
     }
 
 pub returns : goal.returns
 returns c =
     let m = c.args.self.now in
-    let out : List ℕ → Left = λ r. record { answer = accepted c.args.hi; after = record { slots = m.slots; start = m.start; ordered = false; next = m.next; is_open = open_by m.slots m.start m.next r } } in
-    ap out c.publish_rounds.ensures
-    ∙ publish_accepted m.slots m.start m.next m.rounds c.args.lo c.args.hi m.some (omega (arith, m.most, m.table)) c.if-not-all_open.ensures
+    let set = open_fewer m.claims.slots m.claims.start m.claims.next c.args.lo c.args.hi m.rounds _ m.claims.some (omega (arith, m.table, m.claims.most)) c.if-not-all_open.ensures c.publish_rounds.ensures in
+    publish_leaves (sequencing false (open_in m) m.claims) c.args.lo c.args.hi _ (grind (arith, nat_tests)) set
