@@ -1,13 +1,12 @@
 -- One call more of a list, and the end of it. Assumes nothing.
 use Rattle.std.proofs.Common.{◌≡◌, ℕ, ◌+◌, ◌<◌, ◌≤◌, Bool, true, false, cond, eqb, List, [], ◌∷◌, ◌++◌, map, length, get_or, take, drop, set, Result, sym, refl, ap, ◌∙◌, subst}
 use Rattle.std.proofs.lemmas.List.{append_assoc, append-nil, at_drop_all, at_drop_more, map_push, take_all, take_more_set}
-use Rattle.std.proofs.lemmas.Bool.{eq-eqb, ne_eqb}
 use Rattle.events.specs.Refusals.{Reply, accepted, refused, reply}
 use Rattle.events.specs.declared.refusal.Refusal.{Refusal}
 use Rattle.machine.specs.Calls.{Call, Course, after_calls, answer_of, answers_in, answers_to, called, claim, commit, entered, gate, handle, look, onward, onwards, publish, write}
 use Rattle.machine.specs.Law.{Lawful, Run, Sound, Steady, begun}
 use Rattle.machine.specs.Machine.{Left, Room, World, room_made}
-use Rattle.machine.proofs.Basics.{never_refused}
+use Rattle.machine.proofs.Basics.{accepted_is, never_refused}
 use Rattle.machine.proofs.Lawful.{rooms_agree, rooms_steady}
 use Rattle.playout.specs.Plan.{layout}
 use Rattle.playout.specs.declared.plan.Plan.{Plan}
@@ -48,19 +47,6 @@ pub all_answers : (w now : World) (calls : List Call) (after : List (Result ℕ 
 all_answers w now calls after k all long answers =
     let none : answers_to now (drop k calls) ≡ [] = at_drop_all (answers_to now) calls k all in
     sym (append-nil (map reply after)) ∙ ap (λ xs. map reply xs ++ []) (sym (take_all k after long)) ∙ ap (λ xs. map reply (take k after) ++ xs) (sym none) ∙ answers
-
-pub run_all : (w now : World) (calls : List Call) (before after : List (Result ℕ Refusal)) (k : ℕ) → length calls ≤ k → length (map reply before) ≡ length calls → after_calls now (drop k calls) ≡ after_calls w calls → map reply after ≡ answers_to w calls → record { answer = accepted tt; after = now; answers = map reply after } ≡ ended w calls (map reply before)
-run_all w now calls before after k all sizes state answers =
-    let end : after_calls now (drop k calls) ≡ now = at_drop_all (after_calls now) calls k all in
-    let one : World → Ended = λ s. record { answer = accepted tt; after = s; answers = map reply after } in
-    let two : List (Reply ℕ) → Ended = λ xs. record { answer = accepted tt; after = after_calls w calls; answers = xs } in
-    ap one (sym end ∙ state) ∙ ap two answers
-    ∙ ap (λ (b : Bool). cond b (record { answer = accepted tt; after = after_calls w calls; answers = answers_to w calls }) (record { answer = refused 11; after = w; answers = map reply before })) (sym (eq-eqb (length (map reply before)) (length calls) sizes))
-
--- none is
-pub run_none : (w : World) (calls : List Call) (answers : List (Reply ℕ)) → (length answers ≡ length calls → ⊥) → record { answer = refused 11; after = w; answers = answers } ≡ ended w calls answers
-run_none w calls answers ne =
-    ap (λ (b : Bool). cond b (record { answer = accepted tt; after = after_calls w calls; answers = answers_to w calls }) (record { answer = refused 11; after = w; answers = answers })) (sym (ne_eqb (length answers) (length calls) ne))
 
 -- the history goes along, and holds the answers
 pub onwards_world : (c : Course) (calls : List Call) → (onwards c calls).world ≡ after_calls c.world calls
@@ -127,6 +113,9 @@ module _ (plan : Plan) (bank : List Meaning) (ordered : Bool) (capacity producer
   pub run_lawful : (room : Room) → room_made ordered (layout plan) capacity producers ≡ accepted room → Lawful (layout plan) bank capacity (onwards (begun room slots marks bank) calls)
   run_lawful room making = rooms_agree (layout plan) plan_sound bank (of_making room making)
 
-  pub run_steady : (room after : Room) → room_made ordered (layout plan) capacity producers ≡ accepted room → after ≡ (after_calls (record { room = room; slots = slots; marks = marks; bank = bank }) calls).room → Steady (layout plan) after
-  run_steady room after making e =
-      subst (Steady (layout plan)) (ap (λ (w : World). w.room) (onwards_world (begun room slots marks bank) calls) ∙ sym e) (rooms_steady (layout plan) plan_sound bank (of_making room making))
+  -- the room that is left where the calls were made
+  pub run_steady : (made : Room) → accepted made ≡ room_made ordered (layout plan) capacity producers → (answers written : List (Reply ℕ)) (after : World) → record { answer = accepted tt; after = after; answers = written } ≡ ended (record { room = made; slots = slots; marks = marks; bank = bank }) calls answers → (room : Room) → accepted after.room ≡ accepted room → Steady (layout plan) room
+  run_steady made making answers written after was room is =
+      let w : World = record { room = made; slots = slots; marks = marks; bank = bank } in
+      let here : (onwards (begun made slots marks bank) calls).world.room ≡ room = ap (λ (v : World). v.room) (onwards_world (begun made slots marks bank) calls ∙ sym (ended_after w after calls answers written was)) ∙ accepted_is after.room room is in
+      subst (Steady (layout plan)) here (rooms_steady (layout plan) plan_sound bank (of_making made (sym making)))
