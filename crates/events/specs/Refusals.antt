@@ -1,5 +1,5 @@
 -- The table of refusals: the number that each reason has. Assumes nothing.
-use Rattle.std.specs.Prelude.{ℕ, Bool, cond, List, [], ◌∷◌, Ok, Err, Result}
+use Rattle.std.specs.Prelude.{ℕ, Bool, cond, List, [], ◌∷◌, Ok, Err, decimal, Result}
 use Rattle.events.specs.declared.refusal.Refusal.{Refusal}
 use Rattle.events.specs.declared.refusal.Refusal.TheVariants.{FileSize, EventKind, Capacity, StageCount, SequencerKind, ProducerCount, Start, Section, StageRecord, PacketRange, SizeMismatch, CallCode, NoSuchProducer, NoSuchStage, NoSuchEvent, ClaimOpen, Amount, SequencesExhausted, NoPlace, NoClaim, ClaimFull, ClaimNotFull, NothingSeen, NothingToCommit, NotOpen}
 
@@ -29,6 +29,10 @@ number ClaimNotFull = 22
 number NothingSeen = 23
 number NothingToCommit = 24
 number NotOpen = 25
+
+-- a refusal prints as its number
+abbrev pub refusal_text : Refusal → List ℕ
+refusal_text why = decimal (number why)
 
 -- What a call answers: a value, or the number of a refusal.
 pub data Reply (A : Type 0) : Type 0 where

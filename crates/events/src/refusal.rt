@@ -1,9 +1,12 @@
 // Why a call is turned down: one table for the whole library.
-ghost use Rattle.std.specs.Prelude.{◌≡◌};
-ghost use Rattle.events.specs.Refusals.{number};
+ghost use Rattle.std.specs.Prelude.{◌≡◌, Some};
+ghost use Rattle.events.specs.Refusals.{number, refusal_text};
+
+use std::error::Error;
+use std::fmt;
 
 // Each reason, with its number in the table.
-#[derive(Clone, Copy)]
+#[derive(Clone, Copy, Debug, PartialEq, Eq)]
 pub enum Refusal {
     FileSize = 1,
     EventKind = 2,
@@ -40,3 +43,15 @@ impl Refusal {
         self as u8
     }
 }
+
+// A refusal prints as its number.
+impl fmt::Display for Refusal {
+    ghost output = { λ why. Some (refusal_text why) };
+
+    fn fmt<W: fmt::Write>(&self, f: &mut fmt::Formatter<W>) -> fmt::Result {
+        let number = self.number();
+        write!(f, "{number}")
+    }
+}
+
+impl Error for Refusal {}
