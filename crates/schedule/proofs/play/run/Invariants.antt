@@ -12,9 +12,10 @@ invariant-loop-k g l =
     let now : World = world_by g.S.Sequencer.means g.E.Event.words g.B.Bank.stages l.room l.ring l.bank in
     let first : World = world_by g.S.Sequencer.means g.E.Event.words g.B.Bank.stages l.initial.room l.initial.ring l.initial.bank in
     let calls : List Call = map (call_of g.E.Event.words) l.calls in
+    let ahead : List Call = map (call_of g.E.Event.words) (drop l.k l.calls) in
     record {
-      after : after_calls now (drop l.k calls) ≡ after_calls first calls;
-      answers : map reply (take l.k l.answers) ++ answers_to now (drop l.k calls) ≡ answers_to first calls;
-      events : events_after (drop l.k l.calls) (answers_to now (map (call_of g.E.Event.words) (drop l.k l.calls))) l.ring.events.now ≡ events_after l.calls (answers_to first calls) l.initial.ring.events.now;
+      after : after_calls now ahead ≡ after_calls first calls;
+      answers : map reply (take l.k l.answers) ++ answers_to now ahead ≡ answers_to first calls;
+      events : events_after (drop l.k l.calls) (answers_to now ahead) l.ring.events.now ≡ events_after l.calls (answers_to first calls) l.initial.ring.events.now;
       same_memory : SameMemory l.initial.ring l.ring;
     }
