@@ -1,25 +1,24 @@
--- The least done, one stage at a time. Assumes nothing.
-use Rattle.std.proofs.Common.{◌≡◌, ℕ, ◌+◌, ◌^◌, min, Bool, true, false, cond, List, get_or, sym, refl, ap, ◌∙◌, add-one}
+-- The least done, as the stages come one after another. Assumes nothing.
+use Rattle.std.proofs.Common.{◌≡◌, ℕ, zero, suc, ◌+◌, ◌^◌, ◌≤◌, min, Bool, true, false, cond, List, [], ◌∷◌, ◌++◌, map, length, get_or, take, refl, arith, add-zero}
+use Rattle.std.proofs.Math.Seq.{take-suc}
+use Rattle.std.proofs.lemmas.Grind.{common_steps}
+use Rattle.std.proofs.lemmas.List.{map-append}
+use Rattle.std.proofs.lemmas.List.Elements.{filter-append}
+use Rattle.std.proofs.lemmas.List.Sums.{fold-append}
+use Rattle.std.specs.List.{enumerate_from, filter, fold}
 use Rattle.machine.specs.Machine.{least_done}
 use Rattle.machine.specs.declared.Progress.{Progress}
 
-abbrev pub done_of : List Progress → ℕ → ℕ
-done_of places j = (get_or places j (record { seen = 0; at = 0; done = 0 })).done
+numbered-append : {X : Type 0} (k : ℕ) (xs ys : List X) → enumerate_from k (xs ++ ys) ≡ enumerate_from k xs ++ enumerate_from (k + length xs) ys
+numbered-append k [] ys = simp add-zero
+numbered-append k (x ∷ xs) ys = grind (arith, common_steps, numbered-append (k + 1) xs ys)
 
-pub least_none : (places : List Progress) (among : ℕ → Bool) → 2 ^ 62 ≡ least_done places among 0
+-- the least done of a set of stages is that of the list of what they have done
+pub least_dones : (places : List Progress) (set : ℕ → Bool) (n : ℕ) → n ≤ length places → fold min (2 ^ 62) (map (λ p. p.1.done) (filter (λ p. set p.0) (enumerate_from 0 (take n places)))) ≡ least_done places set n
 unfolding least_done
-least_none places among = refl
-
--- stage j is in the set
-pub least_with : (places : List Progress) (among : ℕ → Bool) (j : ℕ) → among j ≡ true → min (least_done places among j) (done_of places j) ≡ least_done places among (j + 1)
-unfolding least_done
-least_with places among j in1 =
-    let least : ℕ = least_done places among j in
-    sym (ap (least_done places among) (add-one j) ∙ ap (λ b. cond b (min least (done_of places j)) least) in1)
-
--- and here it is not
-pub least_without : (places : List Progress) (among : ℕ → Bool) (j : ℕ) → among j ≡ false → least_done places among j ≡ least_done places among (j + 1)
-unfolding least_done
-least_without places among j out =
-    let least : ℕ = least_done places among j in
-    sym (ap (least_done places among) (add-one j) ∙ ap (λ b. cond b (min least (done_of places j)) least) out)
+least_dones places set zero few = refl
+least_dones places set (suc n) few =
+    let none : Progress = record { seen = 0; at = 0; done = 0 } in
+    let more : enumerate_from 0 (take (suc n) places) ≡ enumerate_from 0 (take n places) ++ (n, get_or places n none) ∷ [] = grind (arith, common_steps, take-suc places n none, numbered-append 0 (take n places) (get_or places n none ∷ [])) in
+    let least : ℕ = least_done places set n in
+    rw (more, filter-append, map-append, fold-append, least_dones places set n (omega arith)) (elim (set n) as (λ b. fold min least (map (λ (p : ℕ × Progress). p.1.done) (cond b ((n, get_or places n none) ∷ []) [])) ≡ cond b (min least (get_or places n none).done) least) [ true ↦ refl | false ↦ refl ])

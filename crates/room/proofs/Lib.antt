@@ -1,3 +1,2 @@
-pub mod Called
+pub mod Words
 pub mod Dones
-pub mod Sizes

@@ -9,6 +9,7 @@ mod making;
 
 // A plan, a sequencer, and what the room keeps of each producer and each stage; the tables are used as far as there are
 // producers and stages.
+// The tables are of eight, since those of the room machine are, whose room this one is.
 #[derive(Drop)]
 pub struct Room<S> {
     plan: Plan,

@@ -37,14 +37,13 @@ mod tests {
 
     // Makes a room with one stage, runs the calls, and tells whether the answers are the ones expected, a refusal by its
     // number.
-    fn answers_to<S: Sequencer + Drop>(
+    fn answers_to<S: Sequencer + Drop, const N: usize>(
         rt: &impl Abort,
         ring: &mut Ring<'_, Cue>,
         capacity: u64,
         producers: usize,
-        calls: &[Call<Cue>],
-        answers: &mut [Answer],
-        expected: &[Result<u64, u8>],
+        calls: &[Call<Cue>; N],
+        expected: &[Result<u64, u8>; N],
     ) -> Result<(), Fail> {
         let mut bank = Last {
             stage: Journal::new(),
@@ -52,18 +51,19 @@ mod tests {
         let Ok(plan) = Plan::new(0, &[0]) else {
             return Err(Fail::new("no plan"));
         };
-        if play::<S, Cue, Last<Journal>>(
-            plan, capacity, producers, ring, &mut bank, calls, answers,
-        ).is_err()
-        {
-            return Err(Fail::new("no room"));
-        }
-        for (answer, wanted) in answers.iter().zip(expected.iter()) {
-            match (*answer, *wanted) {
-                (Ok(value), Ok(other)) => assert_eq!(rt; value, other),
-                (Err(why), Err(number)) => assert_eq!(rt; why.number(), number),
-                _ => return Err(Fail::new("accepted or refused where it should not be")),
-            }
+        let mut answers: [Answer; N] = [Ok(9); N];
+        play::<S, Cue, Last<Journal>>(
+            plan,
+            capacity,
+            producers,
+            ring,
+            &mut bank,
+            calls,
+            &mut answers,
+        )
+        .map_err(|_| Fail::new("no room"))?;
+        for (answer, wanted) in answers.iter().zip(expected) {
+            assert_eq!(rt; answer.map_err(|why| why.number()), *wanted);
         }
         Ok(())
     }
@@ -112,8 +112,7 @@ mod tests {
             Ok(1),
             Ok(1),
         ];
-        let mut answers: [Answer; 10] = [Ok(9); 10];
-        answers_to::<Single>(&rt, &mut ring, 1, 1, &calls, &mut answers, &expected)
+        answers_to::<Single, 10>(&rt, &mut ring, 1, 1, &calls, &expected)
     }
 
     #[test]
@@ -158,8 +157,7 @@ mod tests {
             Ok(2),
             Ok(3),
         ];
-        let mut answers: [Answer; 9] = [Ok(9); 9];
-        answers_to::<Multi>(&rt, &mut ring, 4, 2, &calls, &mut answers, &expected)
+        answers_to::<Multi, 9>(&rt, &mut ring, 4, 2, &calls, &expected)
     }
 
     #[test]
@@ -223,8 +221,7 @@ mod tests {
             Err(23),
             Err(24),
         ];
-        let mut answers: [Answer; 14] = [Ok(9); 14];
-        answers_to::<Single>(&rt, &mut ring, 2, 1, &calls, &mut answers, &expected)
+        answers_to::<Single, 14>(&rt, &mut ring, 2, 1, &calls, &expected)
     }
 
     #[test]
@@ -247,7 +244,6 @@ mod tests {
             Call::Handle { stage: 9 },
             Call::Commit { stage: 0 },
         ];
-        let mut answers: [Answer; 7] = [Ok(9); 7];
-        answers_to::<Multi>(&rt, &mut ring, 4, 1, &calls, &mut answers, &[Err(11); 7])
+        answers_to::<Multi, 7>(&rt, &mut ring, 4, 1, &calls, &[Err(11); 7])
     }
 }

@@ -2,7 +2,7 @@
 ghost use Rattle.std.specs.Prelude.{◌≡◌, map};
 ghost use Rattle.events.specs.Refusals.{reply};
 ghost use Rattle.machine.specs.Calls.{called};
-ghost use Rattle.room.specs.Rooms.{room_of, world_of};
+ghost use Rattle.room.specs.Rooms.{SameMemory, room_of, world_by};
 ghost use Rattle.schedule.specs.Schedule.{call_of, events_called};
 
 use bank::Bank;
@@ -12,7 +12,7 @@ use ring::Ring;
 use room::room::Room;
 use sequencer::Sequencer;
 
-// One call on a room, by one producer or for one stage.
+// One call on a room, by one producer or for one stage. It is data, not a closure, since the law ranges over lists of calls.
 #[derive(Clone, Copy)]
 pub enum Call<E> {
     Gate { producer: usize },
@@ -31,10 +31,9 @@ pub fn make_call<S: Sequencer, E: Event, B: Bank<E>>(
     bank: &mut B,
     call: Call<E>,
 ) -> Result<u64, Refusal>
-    ensures does { record { answer = reply result; after = world_of (room_of S.Sequencer.means room.new) (map E.Event.words ring.new.events.now) ring.new.marks.now (B.Bank.stages bank.new) } ≡ called (world_of (room_of S.Sequencer.means room.old) (map E.Event.words ring.old.events.now) ring.old.marks.now (B.Bank.stages bank.old)) (call_of E.Event.words call) }
+    ensures does { let world = world_by S.Sequencer.means E.Event.words B.Bank.stages in record { answer = reply result; after = world room.new ring.new bank.new } ≡ called (world room.old ring.old bank.old) (call_of E.Event.words call) }
     ensures events { ring.new.events.now ≡ events_called call (reply result) ring.old.events.now }
-    ensures same_events { ring.new.events.ghost_name ≡ ring.old.events.ghost_name }
-    ensures same_marks { ring.new.marks.ghost_name ≡ ring.old.marks.ghost_name }
+    ensures same_memory { SameMemory ring.old ring.new }
 {
     match call {
         Call::Gate { producer } => room.gate(ring, bank, producer),
@@ -42,10 +41,7 @@ pub fn make_call<S: Sequencer, E: Event, B: Bank<E>>(
         Call::Write { producer, event } => room.write(ring, bank, producer, event),
         Call::Publish { producer } => room.publish(ring, bank, producer),
         Call::Look { stage } => room.look(ring, bank, stage),
-        Call::Handle { stage } => match room.handle(ring, bank, stage) {
-            Ok(mark) => Ok(u64::from(mark)),
-            Err(why) => Err(why),
-        },
+        Call::Handle { stage } => room.handle(ring, bank, stage).map(u64::from),
         Call::Commit { stage } => room.commit(ring, bank, stage),
     }
 }

@@ -5,7 +5,7 @@ ghost use Rattle.machine.specs.Calls.{onwards};
 ghost use Rattle.machine.specs.Law.{Lawful, Steady, begun};
 ghost use Rattle.machine.specs.Machine as machine;
 ghost use Rattle.playout.specs.Plan.{layout};
-ghost use Rattle.room.specs.Rooms.{room_of, world_of};
+ghost use Rattle.room.specs.Rooms.{SameMemory, room_of, world_by};
 ghost use Rattle.schedule.specs.Schedule.{call_of, ended, events_after, played_by};
 
 use crate::call::{Call, make_call};
@@ -28,16 +28,16 @@ pub fn run<S: Sequencer, E: Event, B: Bank<E>>(
     calls: &[Call<E>],
     answers: &mut [Answer],
 ) -> Result<(), Refusal>
-    ensures does { record { answer = reply result; after = world_of (room_of S.Sequencer.means room.new) (map E.Event.words ring.new.events.now) ring.new.marks.now (B.Bank.stages bank.new); answers = map reply answers.new } ≡ ended (world_of (room_of S.Sequencer.means room.old) (map E.Event.words ring.old.events.now) ring.old.marks.now (B.Bank.stages bank.old)) (map (call_of E.Event.words) calls.now) (map reply answers.old) }
+    ensures does { let world = world_by S.Sequencer.means E.Event.words B.Bank.stages in record { answer = reply result; after = world room.new ring.new bank.new; answers = map reply answers.new } ≡ ended (world room.old ring.old bank.old) (map (call_of E.Event.words) calls.now) (map reply answers.old) }
     ensures events { ring.new.events.now ≡ left (reply result) ring.old.events.now (events_after calls.now (map reply answers.new) ring.old.events.now) }
-    ensures same_events { ring.new.events.ghost_name ≡ ring.old.events.ghost_name }
-    ensures same_marks { ring.new.marks.ghost_name ≡ ring.old.marks.ghost_name }
+    ensures same_memory { SameMemory ring.old ring.new }
 {
     if answers.len() != calls.len() {
         return Err(Refusal::SizeMismatch);
     }
-    for k in 0..calls.len() {
-        answers[k] = make_call(room, ring, bank, calls[k]);
+    // answers by their index: of what is written through a zipped iter_mut no proof knows the values
+    for (k, call) in calls.iter().enumerate() {
+        answers[k] = make_call(room, ring, bank, *call);
     }
     Ok(())
 }
@@ -57,8 +57,7 @@ pub fn play<S: Sequencer + Drop, E: Event, B: Bank<E>>(
     ensures lawful { (room : machine.Room) → machine.room_made S.Sequencer.ordered (layout plan) capacity producers ≡ accepted room → Lawful (layout plan) (B.Bank.stages bank.old) capacity (onwards (begun room (map E.Event.words ring.old.events.now) ring.old.marks.now (B.Bank.stages bank.old)) (map (call_of E.Event.words) calls.now)) }
     ensures steady { (room : machine.Room) → replied (room_of S.Sequencer.means) result ≡ accepted room → Steady (layout plan) room }
     ensures events { ring.new.events.now ≡ left (replied (room_of S.Sequencer.means) result) ring.old.events.now (events_after calls.now (map reply answers.new) ring.old.events.now) }
-    ensures same_events { ring.new.events.ghost_name ≡ ring.old.events.ghost_name }
-    ensures same_marks { ring.new.marks.ghost_name ≡ ring.old.marks.ghost_name }
+    ensures same_memory { SameMemory ring.old ring.new }
 {
     let mut room = Room::new(plan, capacity, producers)?;
     run(&mut room, ring, bank, calls, answers)?;

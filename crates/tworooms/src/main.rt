@@ -23,7 +23,7 @@ use std::io;
 
 mod orders;
 
-use orders::{CUE_COUNT, EAST, WEST};
+use orders::{CUE_COUNT, EAST, Order, WEST};
 
 // Check, Air under a sieve that tests Check, and Journal.
 type Stages = Then<Check, Then<Sieve<Air>, Last<Journal>>>;
@@ -39,27 +39,11 @@ fn main(rt: HostRuntime) -> io::Result<()> {
     let mut events = [<Cue as Event>::blank(); 4];
     let mut marks = [0; 32];
     let mut ring = Ring::new(&mut events, &mut marks);
-    play_room::<Single>(
-        &rt,
-        "east",
-        &mut ring,
-        1,
-        &mut east,
-        &EAST,
-        &mut east_answers,
-    )?;
+    play_room::<Single>(&rt, &EAST, &mut ring, &mut east, &mut east_answers)?;
     let mut events = [<Cue as Event>::blank(); 8];
     let mut marks = [0; 64];
     let mut ring = Ring::new(&mut events, &mut marks);
-    play_room::<Multi>(
-        &rt,
-        "west",
-        &mut ring,
-        2,
-        &mut west,
-        &WEST,
-        &mut west_answers,
-    )?;
+    play_room::<Multi>(&rt, &WEST, &mut ring, &mut west, &mut west_answers)?;
     for stage in 0..MASKS.len() {
         print_figures(&rt, stage, &east, &west)?;
         print_marks(&rt, stage, &east_answers, &west_answers)?;
@@ -85,23 +69,23 @@ fn new_bank() -> Stages {
 // Makes a room over the ring, with as many slots, runs the calls, and prints how far it came.
 fn play_room<S: Sequencer + Drop>(
     rt: &HostRuntime,
-    name: &str,
+    order: &Order,
     ring: &mut Ring<'_, Cue>,
-    producers: usize,
     bank: &mut Stages,
-    calls: &[Call<Cue>],
     answers: &mut [Answer],
 ) -> io::Result<()> {
-    let capacity = ring.slots();
+    let Order {
+        name,
+        producers,
+        calls,
+    } = *order;
+    let capacity = ring.slots() as u64;
     let Ok(plan) = Plan::new(0, &MASKS) else {
         return println!(rt; "{name}: no plan");
     };
-    match play::<S, Cue, Stages>(plan, capacity as u64, producers, ring, bank, calls, answers) {
+    match play::<S, Cue, Stages>(plan, capacity, producers, ring, bank, calls, answers) {
         Ok(room) => print_room(rt, name, &room, answers),
-        Err(why) => {
-            let number = why.number();
-            println!(rt; "{name}: refused {number}")
-        }
+        Err(why) => println!(rt; "{name}: refused {why}"),
     }
 }
 
@@ -114,12 +98,7 @@ fn print_room<S: Sequencer>(
     let capacity = room.sequencer().capacity();
     let producers = room.producers();
     let next = room.sequencer().next();
-    let mut accepted: usize = 0;
-    for answer in answers {
-        if answer.is_ok() {
-            accepted += 1;
-        }
-    }
+    let accepted = answers.iter().filter(|answer| answer.is_ok()).count();
     let calls = answers.len();
     println!(rt;
         "{name}: capacity {capacity}, producers {producers}, next {next}, accepted {accepted} of {calls} calls"
@@ -128,18 +107,14 @@ fn print_room<S: Sequencer>(
 
 // The k-th mark that a stage gave, if it gave as many.
 fn mark_given(calls: &[Call<Cue>], answers: &[Answer], stage: usize, k: usize) -> Option<u64> {
-    let mut left = k;
-    for (call, answer) in calls.iter().zip(answers.iter()) {
-        if let (Call::Handle { stage: i }, Ok(mark)) = (*call, *answer) {
-            if i == stage {
-                if left == 0 {
-                    return Some(mark);
-                }
-                left -= 1;
-            }
-        }
-    }
-    None
+    calls
+        .iter()
+        .zip(answers)
+        .filter_map(|(call, answer)| match (*call, *answer) {
+            (Call::Handle { stage: i }, Ok(mark)) if i == stage => Some(mark),
+            _ => None,
+        })
+        .nth(k)
 }
 
 fn print_figures<B: Bank<Cue>>(
@@ -159,8 +134,8 @@ fn print_marks(rt: &HostRuntime, stage: usize, east: &[Answer], west: &[Answer])
     print!(rt; "stage {stage} marks:")?;
     for k in 0..CUE_COUNT {
         match (
-            mark_given(&EAST, east, stage, k),
-            mark_given(&WEST, west, stage, k),
+            mark_given(EAST.calls, east, stage, k),
+            mark_given(WEST.calls, west, stage, k),
         ) {
             (Some(here), Some(there)) => print_pair(rt, here, there)?,
             (Some(here), None) => print!(rt; " {here}/-")?,

@@ -1,9 +1,9 @@
 // The seven calls. Each first refuses a ring or a bank of another size than the room's.
-ghost use Rattle.std.specs.Prelude.{◌≡◌, ◌≤◌, true, map, length};
-ghost use Rattle.events.specs.Refusals.{reply};
+ghost use Rattle.std.specs.Prelude.{◌≡◌, ℕ, ◌<◌, ◌≤◌, Bool, true, IfOk, length};
+ghost use Rattle.events.specs.Refusals.{replied, reply};
 ghost use Rattle.machine.specs.Machine.{fits, least_done, new_gate, on_claim, on_commit, on_gate, on_handle, on_look, on_publish, on_write};
 ghost use Rattle.playout.specs.Plan.{layout};
-ghost use Rattle.room.specs.Rooms.{events_written, room_of, world_of};
+ghost use Rattle.room.specs.Rooms.{SameMemory, events_written, place_found, room_of, side_found, world_by};
 ghost use Rattle.stages.specs.Marks.{names as named};
 
 use crate::room::Room;
@@ -11,7 +11,7 @@ use bank::Bank;
 use events::event::Event;
 use events::refusal::Refusal;
 use limits::SEQUENCE_END;
-use machine::Claim;
+use machine::{Claim, Producer, Progress};
 use ring::Ring;
 use sequencer::Sequencer;
 use stages::marks::names;
@@ -19,41 +19,65 @@ use stages::marks::names;
 impl<S: Sequencer> Room<S> {
     // Whether ring and bank are of the room's size, with eight marks a slot.
     fn fits<E: Event, B: Bank<E>>(&self, ring: &Ring<'_, E>, bank: &B) -> bool
-        ensures value { result ≡ fits (world_of (room_of S.Sequencer.means self.now) (map E.Event.words ring.now.events.now) ring.now.marks.now (B.Bank.stages bank.now)) }
+        ensures value { result ≡ fits (world_by S.Sequencer.means E.Event.words B.Bank.stages self.now ring.now bank.now) }
         ensures some { result ≡ true → 1 ≤ length ring.now.events.now }
     {
         let slots = ring.slots();
-        if slots as u64 != self.sequencer.capacity() {
-            return false;
-        }
-        // both are cheap, so neither waits for the other
-        (ring.mark_count() == 8 * slots) & (bank.size() == self.plan.stages())
+        slots as u64 == self.sequencer.capacity()
+            && ring.mark_count() == 8 * slots
+            && bank.size() == self.plan.stages()
     }
 
-    // The least that any gating stage has committed; the end of all sequences if there is none.
-    fn least_gating(&self) -> u64
-        ensures { result ≡ new_gate (room_of S.Sequencer.means self.now) }
+    // What the room keeps of a producer, if ring and bank are of the room's size and there is such a producer.
+    fn side<E: Event, B: Bank<E>>(
+        &self,
+        ring: &Ring<'_, E>,
+        bank: &B,
+        producer: usize,
+    ) -> Result<Producer, Refusal>
+        ensures side { replied (λ side. side) result ≡ side_found (world_by S.Sequencer.means E.Event.words B.Bank.stages self.now ring.now bank.now) producer }
+        ensures within { IfOk result (λ side. producer < self.now.producers) }
     {
-        let mut least = SEQUENCE_END;
-        for stage in 0..self.plan.stages() {
-            if self.plan.is_gating(stage) {
-                least = least.min(self.places[stage].done);
-            }
+        if !self.fits(ring, bank) {
+            return Err(Refusal::SizeMismatch);
         }
-        least
+        if producer >= self.producers {
+            return Err(Refusal::NoSuchProducer);
+        }
+        Ok(self.sides[producer])
     }
 
-    // The least that any stage in a mask has committed; the end of all sequences if there is none.
-    fn least_in(&self, mask: u8) -> u64
-        ensures { result ≡ least_done self.now.places (named mask) (layout self.now.plan).stages }
+    // What the room keeps of a stage, if ring and bank are of the room's size and there is such a stage.
+    fn place<E: Event, B: Bank<E>>(
+        &self,
+        ring: &Ring<'_, E>,
+        bank: &B,
+        stage: usize,
+    ) -> Result<Progress, Refusal>
+        ensures place { replied (λ place. place) result ≡ place_found (world_by S.Sequencer.means E.Event.words B.Bank.stages self.now ring.now bank.now) stage }
+        ensures within { IfOk result (λ place. stage < (layout self.now.plan).stages) }
+        ensures slots { IfOk result (λ place. 1 ≤ length ring.now.events.now) }
     {
-        let mut least = SEQUENCE_END;
-        for upstream in 0..self.plan.stages() {
-            if names(mask, upstream) {
-                least = least.min(self.places[upstream].done);
-            }
+        if !self.fits(ring, bank) {
+            return Err(Refusal::SizeMismatch);
         }
-        least
+        if stage >= self.plan.stages() {
+            return Err(Refusal::NoSuchStage);
+        }
+        Ok(self.places[stage])
+    }
+
+    // The least that any stage of these has committed; the end of all sequences if there is none.
+    fn least_done<F: Fn(usize) -> bool>(&self, among: F) -> u64
+        requires { F.IsAlwaysCallable among }
+        ensures { (set : ℕ → Bool) → ((stage : ℕ) (is : Bool) → F.post among stage is → is ≡ set stage) → result ≡ least_done self.now.places set (layout self.now.plan).stages }
+    {
+        self.places[..self.plan.stages()]
+            .iter()
+            .enumerate()
+            .filter(|(stage, _)| among(*stage))
+            .map(|(_, place)| place.done)
+            .fold(SEQUENCE_END, u64::min)
     }
 
     // Gate: a producer learns how far all gating stages have committed.
@@ -63,15 +87,10 @@ impl<S: Sequencer> Room<S> {
         bank: &B,
         producer: usize,
     ) -> Result<u64, Refusal>
-        ensures { record { answer = reply result; after = world_of (room_of S.Sequencer.means self.new) (map E.Event.words ring.now.events.now) ring.now.marks.now (B.Bank.stages bank.now) } ≡ on_gate (world_of (room_of S.Sequencer.means self.old) (map E.Event.words ring.now.events.now) ring.now.marks.now (B.Bank.stages bank.now)) producer }
+        ensures { let world = world_by S.Sequencer.means E.Event.words B.Bank.stages in record { answer = reply result; after = world self.new ring.now bank.now } ≡ on_gate (world self.old ring.now bank.now) producer }
     {
-        if !self.fits(ring, bank) {
-            return Err(Refusal::SizeMismatch);
-        }
-        if producer >= self.producers {
-            return Err(Refusal::NoSuchProducer);
-        }
-        let gate = self.least_gating();
+        self.side(ring, bank, producer)?;
+        let gate = self.least_done(|stage| self.plan.is_gating(stage));
         self.sides[producer].gate = gate;
         Ok(gate)
     }
@@ -84,15 +103,9 @@ impl<S: Sequencer> Room<S> {
         producer: usize,
         amount: u64,
     ) -> Result<u64, Refusal>
-        ensures { record { answer = reply result; after = world_of (room_of S.Sequencer.means self.new) (map E.Event.words ring.now.events.now) ring.now.marks.now (B.Bank.stages bank.now) } ≡ on_claim (world_of (room_of S.Sequencer.means self.old) (map E.Event.words ring.now.events.now) ring.now.marks.now (B.Bank.stages bank.now)) producer amount }
+        ensures { let world = world_by S.Sequencer.means E.Event.words B.Bank.stages in record { answer = reply result; after = world self.new ring.now bank.now } ≡ on_claim (world self.old ring.now bank.now) producer amount }
     {
-        if !self.fits(ring, bank) {
-            return Err(Refusal::SizeMismatch);
-        }
-        if producer >= self.producers {
-            return Err(Refusal::NoSuchProducer);
-        }
-        let side = self.sides[producer];
+        let side = self.side(ring, bank, producer)?;
         if side.claim.is_some() {
             return Err(Refusal::ClaimOpen);
         }
@@ -113,21 +126,12 @@ impl<S: Sequencer> Room<S> {
         producer: usize,
         event: E,
     ) -> Result<u64, Refusal>
-        ensures does { record { answer = reply result; after = world_of (room_of S.Sequencer.means self.new) (map E.Event.words ring.new.events.now) ring.new.marks.now (B.Bank.stages bank.now) } ≡ on_write (world_of (room_of S.Sequencer.means self.old) (map E.Event.words ring.old.events.now) ring.old.marks.now (B.Bank.stages bank.now)) producer (E.Event.words event) }
+        ensures does { let world = world_by S.Sequencer.means E.Event.words B.Bank.stages in record { answer = reply result; after = world self.new ring.new bank.now } ≡ on_write (world self.old ring.old bank.now) producer (E.Event.words event) }
         ensures events { ring.new.events.now ≡ events_written (reply result) event ring.old.events.now }
-        ensures same_events { ring.new.events.ghost_name ≡ ring.old.events.ghost_name }
-        ensures same_marks { ring.new.marks.ghost_name ≡ ring.old.marks.ghost_name }
+        ensures same_memory { SameMemory ring.old ring.new }
     {
-        if !self.fits(ring, bank) {
-            return Err(Refusal::SizeMismatch);
-        }
-        if producer >= self.producers {
-            return Err(Refusal::NoSuchProducer);
-        }
-        let side = self.sides[producer];
-        let Some(claim) = side.claim else {
-            return Err(Refusal::NoClaim);
-        };
+        let side = self.side(ring, bank, producer)?;
+        let claim = side.claim.ok_or(Refusal::NoClaim)?;
         let sequence = claim.unwritten;
         if sequence >= claim.end {
             return Err(Refusal::ClaimFull);
@@ -148,18 +152,10 @@ impl<S: Sequencer> Room<S> {
         bank: &B,
         producer: usize,
     ) -> Result<u64, Refusal>
-        ensures { record { answer = reply result; after = world_of (room_of S.Sequencer.means self.new) (map E.Event.words ring.now.events.now) ring.now.marks.now (B.Bank.stages bank.now) } ≡ on_publish (world_of (room_of S.Sequencer.means self.old) (map E.Event.words ring.now.events.now) ring.now.marks.now (B.Bank.stages bank.now)) producer }
+        ensures { let world = world_by S.Sequencer.means E.Event.words B.Bank.stages in record { answer = reply result; after = world self.new ring.now bank.now } ≡ on_publish (world self.old ring.now bank.now) producer }
     {
-        if !self.fits(ring, bank) {
-            return Err(Refusal::SizeMismatch);
-        }
-        if producer >= self.producers {
-            return Err(Refusal::NoSuchProducer);
-        }
-        let side = self.sides[producer];
-        let Some(claim) = side.claim else {
-            return Err(Refusal::NoClaim);
-        };
+        let side = self.side(ring, bank, producer)?;
+        let claim = side.claim.ok_or(Refusal::NoClaim)?;
         if claim.unwritten < claim.end {
             return Err(Refusal::ClaimNotFull);
         }
@@ -175,19 +171,14 @@ impl<S: Sequencer> Room<S> {
         bank: &B,
         stage: usize,
     ) -> Result<u64, Refusal>
-        ensures { record { answer = reply result; after = world_of (room_of S.Sequencer.means self.new) (map E.Event.words ring.now.events.now) ring.now.marks.now (B.Bank.stages bank.now) } ≡ on_look (world_of (room_of S.Sequencer.means self.old) (map E.Event.words ring.now.events.now) ring.now.marks.now (B.Bank.stages bank.now)) stage }
+        ensures { let world = world_by S.Sequencer.means E.Event.words B.Bank.stages in record { answer = reply result; after = world self.new ring.now bank.now } ≡ on_look (world self.old ring.now bank.now) stage }
     {
-        if !self.fits(ring, bank) {
-            return Err(Refusal::SizeMismatch);
-        }
-        if stage >= self.plan.stages() {
-            return Err(Refusal::NoSuchStage);
-        }
+        let place = self.place(ring, bank, stage)?;
         let mask = self.plan.mask(stage);
         let seen = if mask == 0 {
-            self.sequencer.first(self.places[stage].at)
+            self.sequencer.first(place.at)
         } else {
-            self.least_in(mask)
+            self.least_done(|upstream| names(mask, upstream))
         };
         self.places[stage].seen = seen;
         Ok(seen)
@@ -200,18 +191,11 @@ impl<S: Sequencer> Room<S> {
         bank: &mut B,
         stage: usize,
     ) -> Result<u32, Refusal>
-        ensures does { record { answer = reply result; after = world_of (room_of S.Sequencer.means self.new) (map E.Event.words ring.new.events.now) ring.new.marks.now (B.Bank.stages bank.new) } ≡ on_handle (world_of (room_of S.Sequencer.means self.old) (map E.Event.words ring.old.events.now) ring.old.marks.now (B.Bank.stages bank.old)) stage }
+        ensures does { let world = world_by S.Sequencer.means E.Event.words B.Bank.stages in record { answer = reply result; after = world self.new ring.new bank.new } ≡ on_handle (world self.old ring.old bank.old) stage }
         ensures events { ring.new.events.now ≡ ring.old.events.now }
-        ensures same_events { ring.new.events.ghost_name ≡ ring.old.events.ghost_name }
-        ensures same_marks { ring.new.marks.ghost_name ≡ ring.old.marks.ghost_name }
+        ensures same_memory { SameMemory ring.old ring.new }
     {
-        if !self.fits(ring, bank) {
-            return Err(Refusal::SizeMismatch);
-        }
-        if stage >= self.plan.stages() {
-            return Err(Refusal::NoSuchStage);
-        }
-        let place = self.places[stage];
+        let place = self.place(ring, bank, stage)?;
         if place.seen <= place.at {
             return Err(Refusal::NothingSeen);
         }
@@ -232,15 +216,9 @@ impl<S: Sequencer> Room<S> {
         bank: &B,
         stage: usize,
     ) -> Result<u64, Refusal>
-        ensures { record { answer = reply result; after = world_of (room_of S.Sequencer.means self.new) (map E.Event.words ring.now.events.now) ring.now.marks.now (B.Bank.stages bank.now) } ≡ on_commit (world_of (room_of S.Sequencer.means self.old) (map E.Event.words ring.now.events.now) ring.now.marks.now (B.Bank.stages bank.now)) stage }
+        ensures { let world = world_by S.Sequencer.means E.Event.words B.Bank.stages in record { answer = reply result; after = world self.new ring.now bank.now } ≡ on_commit (world self.old ring.now bank.now) stage }
     {
-        if !self.fits(ring, bank) {
-            return Err(Refusal::SizeMismatch);
-        }
-        if stage >= self.plan.stages() {
-            return Err(Refusal::NoSuchStage);
-        }
-        let place = self.places[stage];
+        let place = self.place(ring, bank, stage)?;
         if place.done == place.at {
             return Err(Refusal::NothingToCommit);
         }

@@ -66,10 +66,6 @@ impl<S> Room<S> {
     pub fn progress(&self, i: usize) -> Option<Progress>
         ensures { result ≡ place_in (layout self.now.plan).stages self.now.places i }
     {
-        if i < self.plan.stages() {
-            Some(self.places[i])
-        } else {
-            None
-        }
+        self.places[..self.plan.stages()].get(i).copied()
     }
 }
