@@ -5,7 +5,10 @@ ghost use Rattle.events.specs.Refusals.{reply};
 ghost use Rattle.runfile.specs.Header.{capacity_of, event_kind, event_size, header_of, kind_of, producers_of, section_of, sequencer_kind, sequencer_of, sized, stage_count_of, start_of};
 ghost use Rattle.runfile.specs.Faults.{told};
 
+use crate::event_record::EventRecord;
 use crate::fault::{Fault, refuse};
+use events::cue::Cue;
+use events::packet::Packet;
 use events::record::{u32_at, u64_at};
 use events::refusal::Refusal;
 use limits::{SEQUENCE_END, is_capacity};
@@ -82,8 +85,8 @@ impl EventKind {
         ensures { result ≡ event_size self }
     {
         match self {
-            EventKind::Cues => 16,
-            EventKind::Packets => 68,
+            EventKind::Cues => Cue::SIZE,
+            EventKind::Packets => Packet::SIZE,
         }
     }
 }
