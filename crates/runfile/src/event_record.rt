@@ -59,10 +59,12 @@ impl EventRecord for Packet {
 }
 
 // Whether every event record of a section can be read, used or not.
+#[tactic(auto, using(crate::proofs::Records::checked_step), unfolding(crate::specs::EventRecords::checked_from))]
 pub(crate) fn check_events<E: EventRecord>(file: &[u8], section: Section) -> Result<(), Fault>
     requires { section.start + section.count * E.EventRecord.SIZE ≤ length file.now }
     ensures { told result ≡ checked_all E.EventRecord.decoded E.EventRecord.SIZE file.now section.start section.count }
 {
+    // by number, since a record's place is wanted for its fault
     for k in 0..section.count {
         let _ = E::read(file, section.start + k * E::SIZE)?;
     }

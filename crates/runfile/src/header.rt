@@ -18,21 +18,21 @@ pub const HEADER_SIZE: usize = 48;
 pub const MOST_BYTES: usize = 65_536;
 
 // What the events are.
-#[derive(Clone, Copy)]
+#[derive(Clone, Copy, Debug, PartialEq, Eq)]
 pub enum EventKind {
     Cues,
     Packets,
 }
 
 // Which sequencer the room has.
-#[derive(Clone, Copy)]
+#[derive(Clone, Copy, Debug, PartialEq, Eq)]
 pub enum SequencerKind {
     Single,
     Multi,
 }
 
 // Where records begin, and how many there are.
-#[derive(Clone, Copy)]
+#[derive(Clone, Copy, Debug, PartialEq, Eq)]
 pub struct Section {
     pub start: usize,
     pub count: usize,
