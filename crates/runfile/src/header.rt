@@ -138,7 +138,7 @@ struct Fields<'a> {
     ghost whole: { 48 ≤ length file.now },
 }
 
-impl<'a> Fields<'a> {
+impl Fields<'_> {
     // The 32-bit number at a place.
     fn number(&self, at: usize) -> u32
         requires { at ≤ 44 }
