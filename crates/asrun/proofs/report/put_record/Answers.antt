@@ -6,6 +6,7 @@ use Rattle.air.specs.Air.{air_figures}
 use Rattle.cue_stages.specs.Check.{check_figures}
 use Rattle.stages.specs.Journal.{journal_figures}
 use Rattle.std.proofs.lemmas.List.{length-map}
+use Rattle.std.proofs.lemmas.Result.{on_ok_weaker}
 use Rattle.asrun.specs.AsRun.{cue_lines, day_layout, stage_line}
 use Rattle.asrun.proofs.Day.{day_accepted, day_bank_lem, day_record}
 use Rattle.asrun.proofs.report.put_record.Goals as goal
@@ -36,7 +37,7 @@ returns c =
     let check0 = stage_line 0 (check_figures bank.stage) in
     let air1 = stage_line 1 (air_figures bank.rest.stage.below) in
     let journal2 = stage_line 2 (journal_figures bank.rest.rest.stage) in
-    c.in_ok-put_stage-3.ensures
+    on_ok_weaker c.put_stage-3.result (λ written. written
     ∙ ap (λ bs. bs ++ journal2) (c.in_ok-put_stage-2.ensures ∙ ap (λ bs. bs ++ air1) (c.in_ok-put_stage.ensures ∙ ap (λ bs. bs ++ check0) (c.in_ok-put_cues.ensures ∙ ap (λ n. before ++ lines n) (sym long))))
     ∙ grouped before (lines (length cues)) check0 air1 journal2
-    ∙ ap (λ bs. before ++ bs) (day_record cues c.args.rows.now (omega arith) (omega arith) _ _ _ lays banks c.in-Ok-play_in_order.ensures)
+    ∙ ap (λ bs. before ++ bs) (day_record cues c.args.rows.now (omega arith) (omega arith) _ _ _ lays banks c.in-Ok-play_in_order.ensures)) c.put_stage-3.ensures
