@@ -42,12 +42,7 @@ fn main(rt: HostRuntime) -> io::Result<()> {
 }
 
 fn run<S: Sequencer + Drop>(rt: &HostRuntime) -> io::Result<()> {
-    let mut events = [Cue {
-        channel: 0,
-        action: 0,
-        item: 0,
-        frame: 0,
-    }; SLOTS];
+    let mut events = [<Cue as Event>::blank(); SLOTS];
     let mut marks = [0u32; 8 * SLOTS];
     let mut ring = Ring::new(&mut events, &mut marks);
     match S::fresh(SLOTS as u64, 0) {
@@ -78,19 +73,15 @@ fn compare<S: Sequencer + Drop>(rt: &HostRuntime) -> io::Result<()> {
 
 // Writes a cue into the slot of each sequence that a claim took: its frame is the sequence.
 fn write_claimed(ring: &mut Ring<'_, Cue>, step: Step, answer: Result<u64, Refusal>) {
-    if let Step::Claim { amount, .. } = step {
-        if let Ok(first) = answer {
-            for s in first..first.saturating_add(amount.min(SLOTS as u64)) {
-                ring.put(
-                    s,
-                    Cue {
-                        channel: 0,
-                        action: 0,
-                        item: 0,
-                        frame: s,
-                    },
-                );
-            }
+    if let (Step::Claim { amount, .. }, Ok(first)) = (step, answer) {
+        for s in first..first.saturating_add(amount.min(SLOTS as u64)) {
+            ring.put(
+                s,
+                Cue {
+                    frame: s,
+                    ..<Cue as Event>::blank()
+                },
+            );
         }
     }
 }
@@ -107,10 +98,7 @@ fn print_step(rt: &HostRuntime, step: Step, answer: Result<u64, Refusal>) -> io:
 fn print_answer(rt: &HostRuntime, answer: Result<u64, Refusal>) -> io::Result<()> {
     match answer {
         Ok(value) => println!(rt; "{value}"),
-        Err(why) => {
-            let number = why.number();
-            println!(rt; "refused {number}")
-        }
+        Err(why) => println!(rt; "refused {why}"),
     }
 }
 
@@ -118,8 +106,7 @@ fn print_ring(rt: &HostRuntime, ring: &Ring<'_, Cue>) -> io::Result<()> {
     print!(rt; "slots:")?;
     for s in 0..SLOTS as u64 {
         if let Some(cue) = ring.event(s) {
-            let frame = cue.frame;
-            print!(rt; " {frame}")?;
+            print!(rt; " {}", cue.frame)?;
         }
     }
     println!(rt)
