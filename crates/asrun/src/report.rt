@@ -132,12 +132,8 @@ fn put_record(out: &mut String, cues: &[Cue], rows: &mut [Marks]) -> Result<(), 
             },
         },
     };
-    let Ok(plan) = Plan::new(0, &[0, 0b1, 0]) else {
-        unreachable()
-    };
-    let Ok(()) = play_in_order(&plan, &mut bank, cues, rows) else {
-        unreachable()
-    };
+    let plan = Plan::new(0, &[0, 0b1, 0]).unwrap();
+    play_in_order(&plan, &mut bank, cues, rows).unwrap();
     put_cues(out, cues, rows)?;
     put_stage(out, 0, &bank.stage)?;
     put_stage(out, 1, &bank.rest.stage)?;
