@@ -45,17 +45,16 @@ fn run<S: Sequencer + Drop>(rt: &HostRuntime) -> io::Result<()> {
     let mut events = [<Cue as Event>::blank(); SLOTS];
     let mut marks = [0u32; 8 * SLOTS];
     let mut ring = Ring::new(&mut events, &mut marks);
-    match S::fresh(SLOTS as u64, 0) {
-        Ok(mut sequencer) => {
-            for step in STEPS {
-                let answer = take_step(&mut sequencer, step);
-                write_claimed(&mut ring, step, answer);
-                print_step(rt, step, answer)?;
-            }
-            print_ring(rt, &ring)
-        }
-        Err(why) => print_answer(rt, Err(why)),
+    let mut sequencer = match S::fresh(SLOTS as u64, 0) {
+        Ok(sequencer) => sequencer,
+        Err(why) => return print_answer(rt, Err(why)),
+    };
+    for step in STEPS {
+        let answer = take_step(&mut sequencer, step);
+        write_claimed(&mut ring, step, answer);
+        print_step(rt, step, answer)?;
     }
+    print_ring(rt, &ring)
 }
 
 // Takes the same steps on two more sequencers that are made alike.
@@ -86,6 +85,7 @@ fn write_claimed(ring: &mut Ring<'_, Cue>, step: Step, answer: Result<u64, Refus
     }
 }
 
+// A function, since the step is another crate's and prints with its answer.
 fn print_step(rt: &HostRuntime, step: Step, answer: Result<u64, Refusal>) -> io::Result<()> {
     match step {
         Step::Claim { amount, gate } => print!(rt; "claim {amount} with gate {gate}: ")?,

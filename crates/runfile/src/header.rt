@@ -131,7 +131,7 @@ fn check_size(file: &[u8]) -> Result<(), Fault>
     Ok(())
 }
 
-// A file that has a whole header, by the fields of that.
+// A file that has a whole header, to read its fields from.
 #[derive(Clone, Copy)]
 struct Fields<'a> {
     file: &'a [u8],
