@@ -1,6 +1,6 @@
 -- The day's plan and bank are never refused, and leave what the record is written from. Assumes nothing.
-use Rattle.std.proofs.Common.{◌≡◌, ℕ, ◌^◌, ◌≤◌, List, [], ◌∷◌, ◌++◌, map, length, get_or, sym, ap, ◌∙◌, arith}
-use Rattle.events.specs.Refusals.{Reply, accepted, refused, left}
+use Rattle.std.proofs.Common.{◌≡◌, ℕ, ◌^◌, ◌≤◌, List, [], ◌∷◌, ◌++◌, map, length, get_or, ap, ◌∙◌, arith}
+use Rattle.events.specs.Refusals.{Reply, accepted, left}
 use Rattle.bank.specs.Bank.{figures_of}
 use Rattle.playout.specs.InOrder.{Played, played, played_answer, row_of, stages_after}
 use Rattle.playout.specs.Plan.{Layout}
@@ -35,13 +35,6 @@ module _ (cues rows : List (List ℕ)) (same : length rows ≡ length cues) (few
         rows = left answer rows (map (row_of day_layout day_bank (λ k. get_or cues k [])) (range_with_len 0 (length cues)));
       } in
       e ∙ ap by day_answer
-
-  pub day_accepted : (l : Layout) (bank : List Meaning) (p : Played) (n : ℕ) → l ≡ day_layout → bank ≡ day_bank → p ≡ played l bank cues rows → p.answer ≡ refused n → ⊥
-  day_accepted l bank p n lays banks e turned =
-      let done = day_played p (e ∙ ap (λ l. played l bank cues rows) lays ∙ ap (λ b. played day_layout b cues rows) banks) in
-      let both : refused n ≡ accepted tt = sym turned ∙ ap (λ p. p.answer) done in
-      let z : ◌≡◌ {A = ℕ} 0 1 = cc in
-      omega arith
 
   -- the record is written from the rows and the stages that are left
   pub day_record : (l : Layout) (bank : List Meaning) (p : Played) → l ≡ day_layout → bank ≡ day_bank → p ≡ played l bank cues rows → cue_lines cues p.rows (length cues) ++ (stage_line 0 (figures_of p.stages 0) ++ (stage_line 1 (figures_of p.stages 1) ++ stage_line 2 (figures_of p.stages 2))) ≡ record_of cues

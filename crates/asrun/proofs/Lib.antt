@@ -1,2 +1,3 @@
+pub mod Chunks
 pub mod Day
 pub mod Lines

@@ -8,6 +8,7 @@ use report::as_run;
 use std::io::Read;
 use std::process::ExitCode;
 
+// A fault prints under the program's name, so no `Err` is returned, which would print it once more.
 fn main(rt: HostRuntime) -> ExitCode {
     match run(&rt) {
         Ok(()) => ExitCode::SUCCESS,

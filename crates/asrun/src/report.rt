@@ -1,7 +1,8 @@
 // The as-run record of a day's cues, as text.
 ghost use Rattle.std.specs.Prelude.{◌≡◌, ◌^◌, ◌≤◌, ◌++◌, map, length, IfOk, Some, string_bytes, OnOk};
-ghost use Rattle.asrun.specs.AsRun.{cue_line, cue_lines, cues_in, fault_text, figure_fields, record_of, stage_line, Tells};
+ghost use Rattle.asrun.specs.AsRun.{cue_line, cue_lines, fault_text, figure_fields, record_of, stage_line, Tells};
 ghost use Rattle.asrun.specs.declared.report.Fault.TheVariants.{OutOfMemory};
+ghost use Rattle.events.specs.Records.{cue_at};
 ghost use Rattle.events.specs.Words.{cue_words};
 
 use air::Air;
@@ -36,15 +37,6 @@ impl From<AllocError> for Fault {
     }
 }
 
-// Text runs into a `String` only for want of memory.
-impl From<fmt::Error> for Fault {
-    ghost from_gives = { λ _ r. r ≡ OutOfMemory };
-
-    fn from(_: fmt::Error) -> Fault {
-        Fault::OutOfMemory
-    }
-}
-
 impl fmt::Display for Fault {
     ghost output = { λ f. Some (fault_text f) };
 
@@ -62,7 +54,7 @@ impl fmt::Display for Fault {
 impl Error for Fault {}
 
 // One line for a cue: its sequence, its words, and the marks of the three stages.
-fn put_cue(out: &mut String, sequence: usize, cue: &Cue, row: &Marks) -> fmt::Result
+fn put_cue(out: &mut String, sequence: usize, cue: &Cue, row: &Marks) -> Result<(), AllocError>
     ensures { OnOk result (string_bytes out.new ≡ string_bytes out.old ++ cue_line sequence (cue_words cue.now) row.now) }
 {
     let Cue {
@@ -72,59 +64,58 @@ fn put_cue(out: &mut String, sequence: usize, cue: &Cue, row: &Marks) -> fmt::Re
         frame,
     } = *cue;
     let [check, air, journal, ..] = *row;
-    write!(out, "{sequence} {channel} {action} {item} {frame}")?;
-    write!(out, " {check} {air} {journal}\n")?;
-    Ok(())
+    writeln!(
+        out,
+        "{sequence} {channel} {action} {item} {frame} {check} {air} {journal}"
+    )
 }
 
 // The figures, each after a space.
-fn put_figures<F: Figures>(out: &mut String, reported: &F) -> fmt::Result
+fn put_figures<F: Figures>(out: &mut String, reported: &F) -> Result<(), AllocError>
     ensures { OnOk result (string_bytes out.new ≡ string_bytes out.old ++ figure_fields (F.Figures.figures reported.now)) }
 {
+    // by number, since a stage gives its figures so
     for k in 0..reported.count() {
-        let n = reported.figure(k);
-        write!(out, " {n}")?;
+        write!(out, " {}", reported.figure(k))?;
     }
     Ok(())
 }
 
 // One line for a stage: its number and its figures.
-fn put_stage<F: Figures>(out: &mut String, number: u8, stage: &F) -> fmt::Result
+fn put_stage<F: Figures>(out: &mut String, number: u8, stage: &F) -> Result<(), AllocError>
     ensures { OnOk result (string_bytes out.new ≡ string_bytes out.old ++ stage_line number (F.Figures.figures stage.now)) }
 {
     write!(out, "stage {number}")?;
     put_figures(out, stage)?;
-    write!(out, "\n")?;
-    Ok(())
+    writeln!(out)
 }
 
 // One line for each cue.
-fn put_cues(out: &mut String, cues: &[Cue], rows: &[Marks]) -> fmt::Result
+fn put_cues(out: &mut String, cues: &[Cue], rows: &[Marks]) -> Result<(), AllocError>
     requires { length rows.now ≡ length cues.now }
     ensures { OnOk result (string_bytes out.new ≡ string_bytes out.old ++ cue_lines (map cue_words cues.now) rows.now (length cues.now)) }
 {
-    for k in 0..cues.len() {
-        put_cue(out, k, &cues[k], &rows[k])?;
+    for (sequence, (cue, row)) in cues.iter().zip(rows).enumerate() {
+        put_cue(out, sequence, cue, row)?;
     }
     Ok(())
 }
 
-// The cues of the whole records in the bytes.
-fn read_cues(heap: Global, input: &[u8]) -> Result<Vec<Cue>, AllocError>
-    ensures { IfOk result (λ v. v.items ≡ cues_in input.now) }
+// The cues of the records.
+fn read_cues(heap: Global, records: &[[u8; CUE_SIZE]]) -> Result<Vec<Cue>, AllocError>
+    ensures { IfOk result (λ v. v.items ≡ map (λ bytes. cue_at bytes 0) records.now) }
 {
-    let mut cues = Vec::new(heap);
-    for k in 0..input.len() / CUE_SIZE {
-        let Some(cue) = cue_at(input, CUE_SIZE * k) else {
-            unreachable()
-        };
-        cues.push(cue)?;
-    }
-    Ok(cues)
+    records.iter().map(read_cue).collect(heap)
+}
+
+fn read_cue(bytes: &[u8; CUE_SIZE]) -> Cue
+    ensures { result ≡ cue_at bytes.now 0 }
+{
+    cue_at(bytes, 0).unwrap()
 }
 
 // Plays the cues one after another from sequence 0 and writes their record; the rows are for the marks.
-fn put_record(out: &mut String, cues: &[Cue], rows: &mut [Marks]) -> fmt::Result
+fn put_record(out: &mut String, cues: &[Cue], rows: &mut [Marks]) -> Result<(), AllocError>
     requires same_length { length rows.old ≡ length cues.now }
     requires bounded { length cues.now ≤ 2 ^ 62 }
     ensures { OnOk result (string_bytes out.new ≡ string_bytes out.old ++ record_of (map cue_words cues.now)) }
@@ -141,29 +132,26 @@ fn put_record(out: &mut String, cues: &[Cue], rows: &mut [Marks]) -> fmt::Result
             },
         },
     };
-    let Ok(plan) = Plan::new(0, &[0, 0b1, 0]) else {
-        unreachable()
-    };
-    let Ok(()) = play_in_order(&plan, &mut bank, cues, rows) else {
-        unreachable()
-    };
+    let plan = Plan::new(0, &[0, 0b1, 0]).unwrap();
+    play_in_order(&plan, &mut bank, cues, rows).unwrap();
     put_cues(out, cues, rows)?;
     put_stage(out, 0, &bank.stage)?;
     put_stage(out, 1, &bank.rest.stage)?;
-    put_stage(out, 2, &bank.rest.rest.stage)?;
-    Ok(())
+    put_stage(out, 2, &bank.rest.rest.stage)
 }
 
 // The as-run record of a day's cues, one record of 16 bytes each, played one after another from sequence 0.
 pub fn as_run(heap: Global, input: &[u8]) -> Result<String, Fault>
     ensures { Tells input.now result }
 {
-    let whole = input.len() / CUE_SIZE;
-    let rest = input.len() % CUE_SIZE;
-    if rest != 0 {
-        return Err(Fault::CutShort { whole, rest });
+    let (records, cut) = input.as_chunks::<CUE_SIZE>();
+    if !cut.is_empty() {
+        return Err(Fault::CutShort {
+            whole: records.len(),
+            rest: cut.len(),
+        });
     }
-    let cues = read_cues(heap, input)?;
+    let cues = read_cues(heap, records)?;
     let mut rows = vec![in heap; [0u32; 8]; cues.len()]?;
     let mut out = String::new(heap);
     put_record(&mut out, &cues, &mut rows)?;

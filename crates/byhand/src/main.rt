@@ -42,25 +42,19 @@ fn main(rt: HostRuntime) -> io::Result<()> {
 }
 
 fn run<S: Sequencer + Drop>(rt: &HostRuntime) -> io::Result<()> {
-    let mut events = [Cue {
-        channel: 0,
-        action: 0,
-        item: 0,
-        frame: 0,
-    }; SLOTS];
+    let mut events = [<Cue as Event>::blank(); SLOTS];
     let mut marks = [0u32; 8 * SLOTS];
     let mut ring = Ring::new(&mut events, &mut marks);
-    match S::fresh(SLOTS as u64, 0) {
-        Ok(mut sequencer) => {
-            for step in STEPS {
-                let answer = take_step(&mut sequencer, step);
-                write_claimed(&mut ring, step, answer);
-                print_step(rt, step, answer)?;
-            }
-            print_ring(rt, &ring)
-        }
-        Err(why) => print_answer(rt, Err(why)),
+    let mut sequencer = match S::fresh(SLOTS as u64, 0) {
+        Ok(sequencer) => sequencer,
+        Err(why) => return print_answer(rt, Err(why)),
+    };
+    for step in STEPS {
+        let answer = take_step(&mut sequencer, step);
+        write_claimed(&mut ring, step, answer);
+        print_step(rt, step, answer)?;
     }
+    print_ring(rt, &ring)
 }
 
 // Takes the same steps on two more sequencers that are made alike.
@@ -78,23 +72,20 @@ fn compare<S: Sequencer + Drop>(rt: &HostRuntime) -> io::Result<()> {
 
 // Writes a cue into the slot of each sequence that a claim took: its frame is the sequence.
 fn write_claimed(ring: &mut Ring<'_, Cue>, step: Step, answer: Result<u64, Refusal>) {
-    if let Step::Claim { amount, .. } = step {
-        if let Ok(first) = answer {
-            for s in first..first.saturating_add(amount.min(SLOTS as u64)) {
-                ring.put(
-                    s,
-                    Cue {
-                        channel: 0,
-                        action: 0,
-                        item: 0,
-                        frame: s,
-                    },
-                );
-            }
+    if let (Step::Claim { amount, .. }, Ok(first)) = (step, answer) {
+        for s in first..first.saturating_add(amount.min(SLOTS as u64)) {
+            ring.put(
+                s,
+                Cue {
+                    frame: s,
+                    ..<Cue as Event>::blank()
+                },
+            );
         }
     }
 }
 
+// A function, since the step is another crate's and prints with its answer.
 fn print_step(rt: &HostRuntime, step: Step, answer: Result<u64, Refusal>) -> io::Result<()> {
     match step {
         Step::Claim { amount, gate } => print!(rt; "claim {amount} with gate {gate}: ")?,
@@ -107,10 +98,7 @@ fn print_step(rt: &HostRuntime, step: Step, answer: Result<u64, Refusal>) -> io:
 fn print_answer(rt: &HostRuntime, answer: Result<u64, Refusal>) -> io::Result<()> {
     match answer {
         Ok(value) => println!(rt; "{value}"),
-        Err(why) => {
-            let number = why.number();
-            println!(rt; "refused {number}")
-        }
+        Err(why) => println!(rt; "refused {why}"),
     }
 }
 
@@ -118,8 +106,7 @@ fn print_ring(rt: &HostRuntime, ring: &Ring<'_, Cue>) -> io::Result<()> {
     print!(rt; "slots:")?;
     for s in 0..SLOTS as u64 {
         if let Some(cue) = ring.event(s) {
-            let frame = cue.frame;
-            print!(rt; " {frame}")?;
+            print!(rt; " {}", cue.frame)?;
         }
     }
     println!(rt)

@@ -1,6 +1,7 @@
 -- The header of a run file. Fields are 32-bit numbers, and the start a 64-bit one. Assumes nothing.
 use Rattle.std.specs.Prelude.{ℕ, ◌+◌, ◌*◌, ◌^◌, cond, not, ◌||◌, List, length, ◌==◌, nat_lt}
 use Rattle.events.specs.Records.{u32_at, u64_at}
+use Rattle.events.specs.Refusals.{Reply, accepted, refused}
 use Rattle.limits.specs.Capacity.{is_capacity}
 use Rattle.runfile.specs.Faults.{Read, and_then, bad, good, unless_bad}
 use Rattle.runfile.specs.declared.header.EventKind.{EventKind}
@@ -9,6 +10,14 @@ use Rattle.runfile.specs.declared.header.Header.{Header}
 use Rattle.runfile.specs.declared.header.Section.{Section}
 use Rattle.runfile.specs.declared.header.SequencerKind.{SequencerKind}
 use Rattle.runfile.specs.declared.header.SequencerKind.TheVariants.{Single, Multi}
+
+-- a kind's number: 1 cues, 2 packets
+abbrev pub event_kind : ℕ → Reply EventKind
+event_kind n = cond (n == 1) (accepted Cues) (cond (n == 2) (accepted Packets) (refused 2))
+
+-- a sequencer's number: 1 single, 2 multi
+abbrev pub sequencer_kind : ℕ → Reply SequencerKind
+sequencer_kind n = cond (n == 1) (accepted Single) (cond (n == 2) (accepted Multi) (refused 5))
 
 -- 48 to 65,536 bytes
 abbrev pub sized : List ℕ → Read (Unit {0})

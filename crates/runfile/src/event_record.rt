@@ -5,78 +5,68 @@ ghost use Rattle.runfile.specs.EventRecords.{checked_all, packet_at};
 ghost use Rattle.runfile.specs.Faults.{Read, good, told};
 ghost use Rattle.std.proofs.Common.{rules};
 
-use crate::fault::{Fault, refuse};
+use crate::fault::Fault;
 use crate::header::Section;
 use events::cue::Cue;
 use events::event::Event;
 use events::packet::Packet;
-use events::record::cue_at;
+use events::record::{CUE_SIZE, cue_at};
 
 // A kind of event that has records in a file.
 pub(crate) trait EventRecord: Event {
-    ghost size: { ℕ };
+    // How many bytes a record has.
+    const SIZE: usize;
+
+    ghost SIZE: { ℕ };
 
     ghost decoded: { List ℕ → ℕ → Read Self };
 
-    // How many bytes a record has.
-    fn size() -> usize
-        ensures { result ≡ size };
-
     // The event whose record begins at a place.
     fn read(file: &[u8], at: usize) -> Result<Self, Fault>
-        requires { at + size ≤ length file.now }
+        requires { at + SIZE ≤ length file.now }
         ensures { told result ≡ decoded file.now at };
 
-    ghost few: { size ≤ 68 };
+    ghost few: { SIZE ≤ 68 };
 }
 
 impl EventRecord for Cue {
-    ghost size = { 16 };
+    const SIZE: usize = CUE_SIZE;
+
+    ghost SIZE = { 16 };
 
     ghost decoded = { λ file at. good (cue_at file at) };
 
     ghost few = { Prim.search rules };
 
-    fn size() -> usize {
-        16
-    }
-
     fn read(file: &[u8], at: usize) -> Result<Cue, Fault> {
-        match cue_at(file, at) {
-            Some(cue) => Ok(cue),
-            None => unreachable(),
-        }
+        Ok(cue_at(file, at).unwrap())
     }
 }
 
 impl EventRecord for Packet {
-    ghost size = { 68 };
+    const SIZE: usize = 68;
+
+    ghost SIZE = { 68 };
 
     ghost decoded = { packet_at };
 
     ghost few = { Prim.search rules };
 
-    fn size() -> usize {
-        68
-    }
-
     fn read(file: &[u8], at: usize) -> Result<Packet, Fault> {
-        let mut text = [0; 64];
-        text.copy_from_slice(&file[at + 4..at + 68]);
-        match Packet::new(file[at], file[at + 1], &text) {
-            Ok(packet) => Ok(packet),
-            Err(why) => refuse(why, at),
-        }
+        let text = file[at + 4..at + Self::SIZE].as_array().unwrap();
+        Packet::new(file[at], file[at + 1], text).map_err(|why| Fault { why, place: at })
     }
 }
 
 // Whether every event record of a section can be read, used or not.
+#[tactic(auto, using(crate::proofs::Records::checked_step), unfolding(crate::specs::EventRecords::checked_from))]
 pub(crate) fn check_events<E: EventRecord>(file: &[u8], section: Section) -> Result<(), Fault>
-    requires { section.start + section.count * E.EventRecord.size ≤ length file.now }
-    ensures { told result ≡ checked_all E.EventRecord.decoded E.EventRecord.size file.now section.start section.count }
+    requires { section.start + section.count * E.EventRecord.SIZE ≤ length file.now }
+    ensures { told result ≡ checked_all E.EventRecord.decoded E.EventRecord.SIZE file.now section.start section.count }
 {
+    // by number, since a record's place is wanted for its fault
     for k in 0..section.count {
-        let _ = E::read(file, section.start + k * E::size())?;
+        let _ = E::read(file, section.start + k * E::SIZE)?;
     }
     Ok(())
 }

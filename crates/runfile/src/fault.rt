@@ -4,7 +4,7 @@ ghost use Rattle.std.specs.Prelude.{◌≡◌, Err};
 use events::refusal::Refusal;
 
 // The first fault found: the reason, by the table of refusals, and the place in the file.
-#[derive(Clone, Copy)]
+#[derive(Clone, Copy, Debug, PartialEq, Eq)]
 pub struct Fault {
     pub why: Refusal,
     pub place: usize,

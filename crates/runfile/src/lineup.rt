@@ -1,16 +1,16 @@
 // The stage records of a run file: what each stage is, and which stages stand upstream of it.
 ghost use Rattle.std.specs.Prelude.{◌≡◌, ◌+◌, ◌*◌, ◌<◌, ◌≤◌, length};
 ghost use Rattle.runfile.specs.Faults.{told};
-ghost use Rattle.runfile.specs.Lineup.{lineup_of, no_tasks, stage_at, work_of};
+ghost use Rattle.runfile.specs.Lineup.{lineup_of, stage_at, work_of};
 
-use crate::fault::{Fault, refuse};
+use crate::fault::Fault;
 use crate::header::{EventKind, Section};
 use events::refusal::Refusal;
 use playout::reach::{Masks, reach};
 use stages::marks::names;
 
 // What a stage is made to do.
-#[derive(Clone, Copy)]
+#[derive(Clone, Copy, Debug, PartialEq, Eq)]
 pub enum Work {
     Journal,
     Check,
@@ -18,7 +18,7 @@ pub enum Work {
 }
 
 // A stage, and if a sieve stands over it, the stage whose mark that tests.
-#[derive(Clone, Copy)]
+#[derive(Clone, Copy, Debug, PartialEq, Eq)]
 pub struct Task {
     pub work: Work,
     pub tested: Option<u8>,
@@ -31,14 +31,14 @@ pub struct StageRecord {
     pub mask: u8,
 }
 
-// All stages, in tables of eight.
+// All stages, in tables of eight: the masks stand alone, as a plan takes them.
 #[derive(Clone, Copy)]
 pub struct Lineup {
     pub tasks: [Task; 8],
     pub masks: Masks,
 }
 
-// What a kind in a stage record stands for; Check and Air need cues.
+// What a kind in a stage record stands for. Check and Air need cues, so its number alone converts to nothing.
 fn work_of(kind: EventKind, number: u8) -> Option<Work>
     ensures { result ≡ work_of kind number }
 {
@@ -62,62 +62,52 @@ fn read_stage(
     requires eight { i < 8 }
     ensures { told result ≡ stage_at file.now kind masks.now i at }
 {
-    let code = file[at];
-    let mask = file[at + 1];
-    let tested = file[at + 2];
+    let fault = Fault {
+        why: Refusal::StageRecord,
+        place: at,
+    };
+    let [code, mask, tested, last] = *file[at..at + 4].as_array::<4>().unwrap();
     let sieved = code >= 16;
     let number = if sieved { code - 16 } else { code };
-    let Some(work) = work_of(kind, number) else {
-        return refuse(Refusal::StageRecord, at);
-    };
-    if mask >> i != 0 || file[at + 3] != 0 {
-        return refuse(Refusal::StageRecord, at);
+    let work = work_of(kind, number).ok_or(fault)?;
+    if mask >> i != 0 || last != 0 {
+        return Err(fault);
     }
     if sieved {
         let mut all = *masks;
         all[i] = mask;
         if !names(reach(&all, i), tested as usize) {
-            return refuse(Refusal::StageRecord, at);
+            return Err(fault);
         }
-        Ok(StageRecord {
-            task: Task {
-                work,
-                tested: Some(tested),
-            },
-            mask,
-        })
-    } else {
-        if tested != 0 {
-            return refuse(Refusal::StageRecord, at);
-        }
-        Ok(StageRecord {
-            task: Task { work, tested: None },
-            mask,
-        })
+    } else if tested != 0 {
+        return Err(fault);
     }
-}
-
-fn no_tasks() -> [Task; 8]
-    ensures { result ≡ no_tasks }
-{
-    [Task {
-        work: Work::Journal,
-        tested: None,
-    }; 8]
+    let tested = sieved.then_some(tested);
+    Ok(StageRecord {
+        task: Task { work, tested },
+        mask,
+    })
 }
 
 // The stage records of a section.
+#[tactic(auto, using(crate::proofs::Records::lineup_step), unfolding(crate::specs::Lineup::lineup_from))]
 pub(crate) fn read_lineup(file: &[u8], section: Section, kind: EventKind) -> Result<Lineup, Fault>
     requires within { section.start + section.count * 4 ≤ length file.now }
     requires eight { section.count ≤ 8 }
     ensures { told result ≡ lineup_of file.now kind section.start section.count }
 {
-    let mut tasks = no_tasks();
-    let mut masks = [0; 8];
+    let mut lineup = Lineup {
+        tasks: [Task {
+            work: Work::Journal,
+            tested: None,
+        }; 8],
+        masks: [0; 8],
+    };
+    // by number, since a record's place is wanted for its fault
     for i in 0..section.count {
-        let record = read_stage(file, section.start + 4 * i, i, kind, &masks)?;
-        tasks[i] = record.task;
-        masks[i] = record.mask;
+        let record = read_stage(file, section.start + 4 * i, i, kind, &lineup.masks)?;
+        lineup.tasks[i] = record.task;
+        lineup.masks[i] = record.mask;
     }
-    Ok(Lineup { tasks, masks })
+    Ok(lineup)
 }

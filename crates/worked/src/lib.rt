@@ -60,13 +60,11 @@ mod tests {
     fn packet(rt: HostRuntime) -> Result<(), Fail> {
         assert!(rt; Packet::new(0, 0, &[65; 64]).is_ok());
         assert!(rt; Packet::new(15, 64, &[65; 64]).is_ok());
-        match Packet::new(15, 65, &[65; 64]) {
-            Ok(_) => Err(Fail::new("a packet of 65 bytes")),
-            Err(why) => {
-                assert_eq!(rt; why.number(), 10);
-                Ok(())
-            },
-        }
+        let Err(why) = Packet::new(15, 65, &[65; 64]) else {
+            return Err(Fail::new("a packet of 65 bytes"));
+        };
+        assert_eq!(rt; why.number(), 10);
+        Ok(())
     }
 
     #[test]
@@ -158,19 +156,13 @@ mod tests {
     #[test]
     fn last_sequence(rt: HostRuntime) -> Result<(), Fail> {
         let end = 1u64 << 62;
-        match <single::Single as Sequencer>::fresh(4, end) {
-            Ok(mut none) => match none.claim(1, end) {
-                Ok(_) => return Err(Fail::new("a claim at the end")),
-                Err(why) => assert_eq!(rt; why.number(), 18),
-            },
-            Err(_) => return Err(Fail::new("no sequencer")),
-        }
-        match <multi::Multi as Sequencer>::fresh(4, end - 1) {
-            Ok(mut one) => {
-                assert!(rt; one.claim(1, end - 1).is_ok());
-                Ok(())
-            },
-            Err(_) => Err(Fail::new("no sequencer")),
-        }
+        let mut none = <single::Single as Sequencer>::fresh(4, end)?;
+        let Err(why) = none.claim(1, end) else {
+            return Err(Fail::new("a claim at the end"));
+        };
+        assert_eq!(rt; why.number(), 18);
+        let mut one = <multi::Multi as Sequencer>::fresh(4, end - 1)?;
+        assert!(rt; one.claim(1, end - 1).is_ok());
+        Ok(())
     }
 }
