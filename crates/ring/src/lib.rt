@@ -4,6 +4,7 @@
 
 ghost use Rattle.std.specs.Prelude.{◌≡◌, ◌%◌, ◌^◌, ◌<◌, ◌==◌, ◌&&◌, Some, None, if◌then◌else◌, length, nat_lt, slice_set};
 ghost use Rattle.events.specs.Refusals.{reply};
+ghost use Rattle.ring.specs.Memory.{SameMemory};
 ghost use Rattle.ring.specs.Ring.{checked, event_at, is_mark, made_events, made_marks, mark_at, marked, place, row_at, written};
 ghost use Rattle.stages.specs.Marks.{shown};
 ghost use Rattle.std.specs.Option.{option_map};
@@ -76,8 +77,7 @@ impl<'a, E: Event> Ring<'a, E> {
     pub fn put(&mut self, s: u64, event: E)
         ensures events { self.new.events.now ≡ written self.old.events.now s event }
         ensures marks { self.new.marks.now ≡ self.old.marks.now }
-        ensures same_events { self.new.events.ghost_name ≡ self.old.events.ghost_name }
-        ensures same_marks { self.new.marks.ghost_name ≡ self.old.marks.ghost_name }
+        ensures same_memory { SameMemory self.old self.new }
     {
         if let Some(slot) = self.slot(s) {
             write_slot(self.events, slot, event);
@@ -98,8 +98,7 @@ impl<'a, E: Event> Ring<'a, E> {
     pub fn set_mark(&mut self, s: u64, i: usize, mark: u32)
         ensures marks { self.new.marks.now ≡ marked (length self.old.events.now) self.old.marks.now s i mark }
         ensures events { self.new.events.now ≡ self.old.events.now }
-        ensures same_events { self.new.events.ghost_name ≡ self.old.events.ghost_name }
-        ensures same_marks { self.new.marks.ghost_name ≡ self.old.marks.ghost_name }
+        ensures same_memory { SameMemory self.old self.new }
     {
         if let Some(at) = self.place(s, i)
             && at < self.marks.len()

@@ -1,5 +1,5 @@
 -- What a room, its ring and its bank mean. Assumes nothing.
-use Rattle.std.specs.Prelude.{◌≡◌, ℕ, cond, not, List, [], ◌∷◌, map, Some, None, Option, nat_le, nat_lt, slice_index_or}
+use Rattle.std.specs.Prelude.{ℕ, cond, not, List, [], ◌∷◌, map, Some, None, Option, nat_le, nat_lt, slice_index_or}
 use Rattle.events.specs.Refusals.{Reply, accepted, refused, unless}
 use Rattle.playout.specs.Plan.{layout}
 use Rattle.machine.specs.Machine as machine
@@ -39,8 +39,3 @@ place_found w i = unless ((not (machine.fits w), 11) ∷ (nat_le w.room.plan.sta
 abbrev pub events_written : {E : Type 0} → Reply ℕ → E → List E → List E
 events_written (accepted s) event events = written events s event
 events_written (refused n) event events = events
-
--- a ring is still over the memory that it was over
-pub record SameMemory {E : Type 0} (before after : Ring E) : Type 0 where
-  pub events : after.events.ghost_name ≡ before.events.ghost_name
-  pub marks : after.marks.ghost_name ≡ before.marks.ghost_name

@@ -2,7 +2,8 @@
 ghost use Rattle.std.specs.Prelude.{◌≡◌, map};
 ghost use Rattle.events.specs.Refusals.{reply};
 ghost use Rattle.machine.specs.Calls.{called};
-ghost use Rattle.room.specs.Rooms.{SameMemory, room_of, world_by};
+ghost use Rattle.ring.specs.Memory.{SameMemory};
+ghost use Rattle.room.specs.Rooms.{room_of, world_by};
 ghost use Rattle.schedule.specs.Schedule.{call_of, events_called};
 
 use bank::Bank;

@@ -5,7 +5,8 @@ ghost use Rattle.machine.specs.Calls.{onwards};
 ghost use Rattle.machine.specs.Law.{Lawful, Steady, begun};
 ghost use Rattle.machine.specs.Machine as machine;
 ghost use Rattle.playout.specs.Plan.{layout};
-ghost use Rattle.room.specs.Rooms.{SameMemory, room_of, world_by};
+ghost use Rattle.ring.specs.Memory.{SameMemory};
+ghost use Rattle.room.specs.Rooms.{room_of, world_by};
 ghost use Rattle.schedule.specs.Schedule.{call_of, ended, events_after, played_by};
 
 use crate::call::{Call, make_call};

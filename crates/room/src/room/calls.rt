@@ -3,7 +3,8 @@ ghost use Rattle.std.specs.Prelude.{◌≡◌, ℕ, ◌<◌, ◌≤◌, Bool, tr
 ghost use Rattle.events.specs.Refusals.{replied, reply};
 ghost use Rattle.machine.specs.Machine.{fits, least_done, new_gate, on_claim, on_commit, on_gate, on_handle, on_look, on_publish, on_write};
 ghost use Rattle.playout.specs.Plan.{layout};
-ghost use Rattle.room.specs.Rooms.{SameMemory, events_written, place_found, room_of, side_found, world_by};
+ghost use Rattle.ring.specs.Memory.{SameMemory};
+ghost use Rattle.room.specs.Rooms.{events_written, place_found, room_of, side_found, world_by};
 ghost use Rattle.stages.specs.Marks.{names as named};
 
 use crate::room::Room;

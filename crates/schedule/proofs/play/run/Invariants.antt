@@ -2,7 +2,8 @@ use Rattle.std.proofs.Common.{◌≡◌, List, ◌++◌, map, take, drop}
 use Rattle.events.specs.Refusals.{reply}
 use Rattle.machine.specs.Calls.{Call, after_calls, answers_to}
 use Rattle.machine.specs.Machine.{World}
-use Rattle.room.specs.Rooms.{SameMemory, world_by}
+use Rattle.ring.specs.Memory.{SameMemory}
+use Rattle.room.specs.Rooms.{world_by}
 use Rattle.schedule.specs.Schedule.{call_of, events_after}
 use Rattle.schedule.proofs.play.run.Given as goal
 
