@@ -7,13 +7,13 @@ use Rattle.air.specs.Air.{shown_by, shown_figure}
 use Rattle.air.specs.declared.Shown.{Shown}
 use Rattle.air.specs.declared.Shown.TheVariants.{Black, Playing, Held}
 
-shown_back : (shown : Shown) → shown_by (shown_figure shown) ≡ shown
-shown_back Black = refl
-shown_back (Playing item) = grind (arith, nat_tests)
-shown_back (Held item) = grind (arith, nat_tests)
+pub shown_by_lem : (shown : Shown) → shown_by (shown_figure shown) ≡ shown
+shown_by_lem Black = refl
+shown_by_lem (Playing item) = grind (arith, nat_tests)
+shown_by_lem (Held item) = grind (arith, nat_tests)
 
 -- the channel in a table by its figure there, and black past the last
 pub shown_at : (channels : List Shown) (i : ℕ) → shown_by (get_or (map shown_figure channels) i 0) ≡ get_or channels i Black
-shown_at channels i = ap shown_by (get_or-map shown_figure channels i Black) ∙ shown_back (get_or channels i Black)
+shown_at channels i = ap shown_by (get_or-map shown_figure channels i Black) ∙ shown_by_lem (get_or channels i Black)
 
 pub ruleset channels = (tables, shown_at)

@@ -1,8 +1,10 @@
 -- Which stages a mask names. Assumes nothing.
-use Rattle.std.proofs.Common.{◌≡◌, ℕ, zero, suc, ◌+◌, ◌-◌, ◌/◌, ◌%◌, ◌^◌, ◌<◌, ◌≤◌, true, false, ◌||◌, eqb, max, sym, refl, ap, ◌∙◌, inl, inr, arith, shr-shr}
-use native.Mathlib.Nat.{zero-div}
+use Rattle.std.proofs.Common.{◌≡◌, ℕ, ◌/◌, ◌^◌, ◌<◌, ◌≤◌, true, false, ◌||◌, eqb, max, sym, ap, ◌∙◌, inl, inr, arith}
+use native.Mathlib.Nat.{div-lt_iff_lt-mul}
+use Rattle.std.proofs.lemmas.Nat.{pow_pos}
 use lib.Bits.{bit_or}
 use Rattle.std.proofs.lemmas.Bool.{cases_eq, cases_lt, true≢false}
+use Rattle.std.proofs.lemmas.Bool.Decides.{nat_tests}
 use Rattle.std.proofs.lemmas.Nat.Bits.{bit_at-lt, bit_at-zero, bit_at-pow_same, bit_at-pow_other, bit_at_or, bit_at_above}
 use Rattle.std.specs.Int.{bit_at}
 use Rattle.stages.specs.Marks.{names}
@@ -13,9 +15,8 @@ names_below mask i j clear named =
     elim (cases_lt j i) [
       | inl below ↦ below
       | inr above ↦
-          let e : i + (j - i) ≡ j = omega arith in
-          let none : mask / 2 ^ j ≡ 0 = ap (λ n. mask / 2 ^ n) (sym e) ∙ sym (shr-shr mask i (j - i)) ∙ ap (λ n. n / 2 ^ (j - i)) clear ∙ zero-div (2 ^ (j - i)) in
-          absurd (true≢false (sym named ∙ ap (λ n. eqb (n % 2) 1) none))
+          let small : mask < 2 ^ i = omega (arith, (div-lt_iff_lt-mul {x = mask} {y = 1} (pow_pos i)).0 (omega arith)) in
+          absurd (true≢false (sym named ∙ ap (λ n. eqb n 1) (bit_at_above mask i j small above)))
     ]
 
 -- a byte names no stage from 8 on
@@ -26,13 +27,7 @@ pub names_none : (j : ℕ) → names 0 j ≡ false
 names_none j = ap (λ n. eqb n 1) (bit_at-zero j)
 
 or_bit : (p q : ℕ) → p < 2 → q < 2 → eqb (max p q) 1 ≡ (eqb p 1 || eqb q 1)
-or_bit zero zero hp hq = refl
-or_bit zero (suc zero) hp hq = refl
-or_bit zero (suc (suc q)) hp hq = absurd (omega arith)
-or_bit (suc zero) zero hp hq = refl
-or_bit (suc zero) (suc zero) hp hq = refl
-or_bit (suc zero) (suc (suc q)) hp hq = absurd (omega arith)
-or_bit (suc (suc p)) q hp hq = absurd (omega arith)
+or_bit p q hp hq = grind (arith, nat_tests)
 
 pub names_or : (a b j : ℕ) → names (bit_or a b) j ≡ (names a j || names b j)
 names_or a b j = ap (λ n. eqb n 1) (bit_at_or a b j) ∙ or_bit (bit_at a j) (bit_at b j) (bit_at-lt a j) (bit_at-lt b j)
