@@ -1,4 +1,5 @@
-// The seven calls. Each first refuses a ring or a bank of another size than the room's.
+// The seven calls. A room keeps neither ring nor bank: each call takes both, and first refuses them if they are of another
+// size than the room's.
 ghost use Rattle.std.specs.Prelude.{◌≡◌, ℕ, ◌<◌, ◌≤◌, Bool, true, IfOk, length};
 ghost use Rattle.events.specs.Refusals.{replied, reply};
 ghost use Rattle.machine.specs.Machine.{fits, least_done, new_gate, on_claim, on_commit, on_gate, on_handle, on_look, on_publish, on_write};
@@ -120,6 +121,7 @@ impl<S: Sequencer> Room<S> {
     }
 
     // Write: an event fills the slot of the first unwritten sequence of the producer's claim.
+    #[tactic(auto, using(crate::proofs::Words::words_written))]
     pub fn write<E: Event, B: Bank<E>>(
         &mut self,
         ring: &mut Ring<'_, E>,
