@@ -13,7 +13,7 @@ use stages::stage::Stage;
 pub trait Bank<E: Event> {
     ghost stages: { Self → List Meaning };
 
-    // How many stages there are, 9 standing for any above 8.
+    // How many stages there are, 9 standing for any above 8: a room needs to know no more.
     fn size(&self) -> usize
         ensures { result ≡ min (length (stages self.now)) 9 };
 

@@ -7,6 +7,7 @@ use crate::event::Event;
 #[derive(Clone, Copy)]
 pub struct Cue {
     pub channel: u8,
+    // a number, since a cue may come with an action that there is not
     pub action: u8,
     pub item: u32,
     pub frame: u64,

@@ -12,6 +12,7 @@ use crate::refusal::Refusal;
 pub struct Packet {
     pub channel: u8,
     pub length: u8,
+    // all 64, since a packet is a plain record in fixed memory; those past the length mean nothing
     pub bytes: [u8; 64],
 }
 

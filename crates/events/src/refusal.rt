@@ -36,7 +36,7 @@ pub enum Refusal {
 }
 
 impl Refusal {
-    // The reason's number in the table.
+    // The reason's number in the table; a method, since a bare conversion would not say which number it gives.
     pub fn number(self) -> u8
         ensures { result ≡ number self }
     {

@@ -9,7 +9,8 @@ use events::refusal::Refusal;
 use sequencer::Sequencer;
 use sequencer::claims::Claims;
 
-// For each slot the round that was published last, 0 at first; the round of s is s div N, plus 1.
+// For each slot the round that was published last, 0 at first; the round of s is s div N, plus 1. A table in fixed memory, as
+// large as the largest ring.
 pub type Rounds = [u64; 256];
 
 #[derive(Drop)]
@@ -62,6 +63,7 @@ impl Multi {
 fn publish_rounds(rounds: &mut Rounds, claims: &Claims, lo: u64, hi: u64)
     ensures { rounds.new ≡ rounds_after claims.now.slots rounds.old lo (hi - lo) }
 {
+    // a sequence finds its slot by division, so no iterator over the slots serves
     for s in lo..hi {
         rounds[(s % claims.slots) as usize] = s / claims.slots + 1;
     }
@@ -87,6 +89,7 @@ impl Sequencer for Multi {
         })
     }
 
+    // What the trait asks for here, the claims tell.
     fn capacity(&self) -> u64 {
         self.claims.slots
     }

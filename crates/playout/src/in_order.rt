@@ -12,7 +12,8 @@ use events::refusal::Refusal;
 use limits::SEQUENCE_END;
 use stages::marks::{Marks, show};
 
-// Plays the events from the plan's start on, one after another, and writes the marks that each one got into its row.
+// Plays the events from the plan's start on, one after another, and writes the marks that each one got into its row: rows are
+// memory of the caller's, so they stand beside the events.
 #[tactic(auto, unfolding(crate::specs::InOrder::stages_after))]
 pub fn play_in_order<E: Event, B: Bank<E>>(
     plan: &Plan,

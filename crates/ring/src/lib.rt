@@ -15,7 +15,7 @@ use limits::is_capacity;
 use stages::marks::{Marks, show};
 use std::array;
 
-// Over the maker's slice of events, one a slot, and slice of marks, eight a slot.
+// Over the maker's slice of events, one a slot, and slice of marks, eight a slot. Two slices, since its maker lends two.
 #[derive(Drop)]
 pub struct Ring<'a, E> {
     events: &'a mut [E],

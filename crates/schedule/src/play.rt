@@ -21,7 +21,8 @@ use sequencer::Sequencer;
 // What a call answered.
 pub type Answer = Result<u64, Refusal>;
 
-// Makes calls one after another, refused ones too, and writes their answers, for which there are as many places.
+// Makes calls one after another, refused ones too, and writes their answers, for which there are as many places: memory of the
+// caller's, so they stand beside the calls.
 pub fn run<S: Sequencer, E: Event, B: Bank<E>>(
     room: &mut Room<S>,
     ring: &mut Ring<'_, E>,

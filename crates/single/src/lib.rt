@@ -37,6 +37,7 @@ impl Sequencer for Single {
         })
     }
 
+    // What the trait asks for here, the claims tell.
     fn capacity(&self) -> u64 {
         self.claims.slots
     }

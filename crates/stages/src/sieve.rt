@@ -9,6 +9,7 @@ use events::event::Event;
 
 #[derive(Clone, Copy)]
 pub struct Sieve<S> {
+    // a number, since one above 7 may be given: then nothing is tested
     pub tested: u8,
     pub below: S,
 }

@@ -9,7 +9,8 @@ use events::event::Event;
 pub trait Stage<E: Event>: Figures {
     ghost means: { Self → Meaning };
 
-    // Handles the event of a sequence, shown eight marks, and gives a mark.
+    // Handles the event of a sequence, shown eight marks, and gives a mark. These are three arguments, as a stage is handed
+    // them; only the definitions have one record of them.
     fn handle(&mut self, sequence: u64, event: &E, marks: &Marks) -> u32
         ensures grows { means self.new ≡ after (means self.old) (record { sequence = sequence; words = E.Event.words event.now; marks = marks.now }) }
         ensures mark { result ≡ mark_of (means self.old) (record { sequence = sequence; words = E.Event.words event.now; marks = marks.now }) };

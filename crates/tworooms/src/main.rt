@@ -124,6 +124,7 @@ fn print_figures<B: Bank<Cue>>(
     west: &B,
 ) -> io::Result<()> {
     print!(rt; "stage {stage} figures:")?;
+    // by number, since a bank gives its figures so
     for k in 0..east.count(stage) {
         print_pair(rt, east.figure(stage, k), west.figure(stage, k))?;
     }
@@ -132,6 +133,7 @@ fn print_figures<B: Bank<Cue>>(
 
 fn print_marks(rt: &HostRuntime, stage: usize, east: &[Answer], west: &[Answer]) -> io::Result<()> {
     print!(rt; "stage {stage} marks:")?;
+    // by number, since either room may have given fewer marks
     for k in 0..CUE_COUNT {
         match (
             mark_given(EAST.calls, east, stage, k),

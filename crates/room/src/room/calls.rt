@@ -69,7 +69,7 @@ impl<S: Sequencer> Room<S> {
         Ok(self.places[stage])
     }
 
-    // The least that any stage of these has committed; the end of all sequences if there is none.
+    // The least that any stage of these has committed; the end of all sequences if there is none, as the room machine has it.
     fn least_done<F: Fn(usize) -> bool>(&self, among: F) -> u64
         requires { F.IsAlwaysCallable among }
         ensures { (set : ℕ → Bool) → ((stage : ℕ) (is : Bool) → F.post among stage is → is ≡ set stage) → result ≡ least_done self.now.places set (layout self.now.plan).stages }
