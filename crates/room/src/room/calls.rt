@@ -202,9 +202,7 @@ impl<S: Sequencer> Room<S> {
         if place.seen <= place.at {
             return Err(Refusal::NothingSeen);
         }
-        let Some(event) = ring.event(place.at) else {
-            unreachable()
-        };
+        let event = ring.event(place.at).unwrap();
         let marks = ring.marks(place.at, self.plan.reach(stage));
         let mark = bank.handle(stage, place.at, event, &marks);
         ring.set_mark(place.at, stage, mark);

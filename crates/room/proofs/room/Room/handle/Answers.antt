@@ -16,6 +16,6 @@ returns-clause-does g c =
     let w : World = world_by g.S.Sequencer.means words g.B.Bank.stages c.args.self.now ring c.args.bank.now in
     let here : place ≡ place_of w.room i = search rules in
     let long : length events ≡ length w.slots = sym (length-map events words) in
-    let event : words c.in-Some.event.now ≡ get_or w.slots (place.at % length w.slots) [] = words_at words events g.E.Event.blank c.in-Some.event.now place.at c.in_ok-place.ensures.slots c.in-Some.ensures in
-    let got : record { sequence = place.at; words = words c.in-Some.event.now; marks = c.marks-marks.result } ≡ given w i = cc in
+    let event : words c.unwrap-event.result.now ≡ get_or w.slots (place.at % length w.slots) [] = words_at words events g.E.Event.blank c.unwrap-event.result.now place.at c.in_ok-place.ensures.slots (rw c.unwrap-event.ensures at c.event.ensures) in
+    let got : record { sequence = place.at; words = words c.unwrap-event.result.now; marks = c.marks-marks.result } ≡ given w i = cc in
     search rules
