@@ -12,7 +12,6 @@ returns-clause-does g c =
     let events = ring.events.now in
     let i = c.args.stage in
     let place = c.in_ok-place.place in
-    let mark = c.handle-mark.result in
     let w : World = world_by g.S.Sequencer.means words g.B.Bank.stages c.args.self.now ring c.args.bank.now in
     let here : place ≡ place_of w.room i = search rules in
     let long : length events ≡ length w.slots = sym (length-map events words) in
