@@ -97,6 +97,7 @@ impl Air {
     }
 }
 
+// The method above, by the name that a table of channels asks for.
 impl Channel for Shown {
     ghost figure = { shown_figure };
 
@@ -130,6 +131,7 @@ impl Stage<Cue> for Air {
         let Ok(action) = Action::try_from(cue.action) else {
             return 1;
         };
+        // a test and then the element, since of what `get_mut` lends the proof does not know what it leaves
         if cue.channel > LAST_CHANNEL {
             return 1;
         }

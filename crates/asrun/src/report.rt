@@ -90,7 +90,7 @@ fn put_stage<F: Figures>(out: &mut String, number: u8, stage: &F) -> Result<(), 
     writeln!(out)
 }
 
-// One line for each cue.
+// One line for each cue; its marks stand in memory of their own, which the run was lent.
 fn put_cues(out: &mut String, cues: &[Cue], rows: &[Marks]) -> Result<(), AllocError>
     requires { length rows.now ≡ length cues.now }
     ensures { OnOk result (string_bytes out.new ≡ string_bytes out.old ++ cue_lines (map cue_words cues.now) rows.now (length cues.now)) }

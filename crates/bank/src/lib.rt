@@ -26,7 +26,7 @@ pub trait Bank<E: Event> {
     fn figure(&self, i: usize, k: usize) -> u64
         ensures { result ≡ get_or (figures_of (stages self.now) i) k 0 };
 
-    // Passes an event to stage i alone, and gives its mark; 0 if there is no such stage.
+    // Passes an event to stage i alone, and gives its mark; 0 if there is no such stage. The arguments are a stage's.
     fn handle(&mut self, i: usize, sequence: u64, event: &E, marks: &Marks) -> u32
         ensures grows { stages self.new ≡ handled_by (stages self.old) i (record { sequence = sequence; words = E.Event.words event.now; marks = marks.now }) }
         ensures mark { result ≡ mark_by (stages self.old) i (record { sequence = sequence; words = E.Event.words event.now; marks = marks.now }) };
@@ -38,7 +38,7 @@ pub struct Last<S> {
     pub stage: S,
 }
 
-// A stage followed by a bank.
+// A stage followed by a bank: by the rule a bank is one or the other, so a stage is sought by its number.
 #[derive(Clone, Copy)]
 pub struct Then<S, B> {
     pub stage: S,

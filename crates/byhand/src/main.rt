@@ -73,6 +73,7 @@ fn compare<S: Sequencer + Drop>(rt: &HostRuntime) -> io::Result<()> {
 // Writes a cue into the slot of each sequence that a claim took: its frame is the sequence.
 fn write_claimed(ring: &mut Ring<'_, Cue>, step: Step, answer: Result<u64, Refusal>) {
     if let (Step::Claim { amount, .. }, Ok(first)) = (step, answer) {
+        // the sequences of the claim, as a ring finds a slot
         for s in first..first.saturating_add(amount.min(SLOTS as u64)) {
             ring.put(
                 s,
@@ -104,6 +105,7 @@ fn print_answer(rt: &HostRuntime, answer: Result<u64, Refusal>) -> io::Result<()
 
 fn print_ring(rt: &HostRuntime, ring: &Ring<'_, Cue>) -> io::Result<()> {
     print!(rt; "slots:")?;
+    // by sequence, as a ring finds a slot
     for s in 0..SLOTS as u64 {
         if let Some(cue) = ring.event(s) {
             print!(rt; " {}", cue.frame)?;

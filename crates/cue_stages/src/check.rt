@@ -22,7 +22,7 @@ pub enum Flaw {
     Backwards = 4,
 }
 
-// The mark that stands for what is found of a cue: 0 if nothing is wrong.
+// The mark that stands for what is found of a cue: 0 if nothing is wrong. A function, since a `Result` is not ours to convert.
 pub fn mark(verdict: Result<(), Flaw>) -> u32
     ensures { result ≡ verdict_mark verdict }
 {

@@ -11,7 +11,7 @@ pub trait Event: Copy {
     fn count(&self) -> usize
         ensures { result ≡ length (words self.now) };
 
-    // Word k, counted from 0, or 0 past the last.
+    // Word k, counted from 0, or 0 past the last, as the rule of words has it: no Option.
     fn word(&self, k: usize) -> u64
         ensures { result ≡ slice_index (words self.now) k };
 

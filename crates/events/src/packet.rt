@@ -24,7 +24,7 @@ impl Packet {
         if channel > 15 || length > 64 {
             return Err(Refusal::PacketRange);
         }
-        let bytes = front(text, length as usize);
+        let bytes = front(text, usize::from(length));
         Ok(Packet {
             channel,
             length,
@@ -51,16 +51,17 @@ impl Event for Packet {
     ghost few = { packet_few };
 
     fn count(&self) -> usize {
-        2 + self.length.min(64) as usize
+        2 + usize::from(self.length.min(64))
     }
 
     fn word(&self, k: usize) -> u64 {
-        let length = self.length.min(64) as usize;
+        let length = usize::from(self.length.min(64));
         match k {
             0 => u64::from(self.channel.min(15)),
             1 => length as u64,
-            _ if k - 2 < length => u64::from(self.bytes[k - 2]),
-            _ => 0,
+            _ => self.bytes[..length]
+                .get(k - 2)
+                .map_or(0, |byte| u64::from(*byte)),
         }
     }
 

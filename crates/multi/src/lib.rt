@@ -2,15 +2,15 @@
 
 #![tactic(auto)]
 
-ghost use Rattle.std.specs.Prelude.{◌≡◌, ℕ, ◌+◌, ◌-◌, ◌*◌, ◌<◌, ◌≤◌, length, slice_index};
+ghost use Rattle.std.specs.Prelude.{◌≡◌, ℕ, ◌+◌, ◌-◌, ◌*◌, ◌<◌, length, slice_index};
 ghost use Rattle.multi.specs.Rounds.{rounds_after};
 
 use events::refusal::Refusal;
 use sequencer::Sequencer;
 use sequencer::claims::Claims;
 
-// For each slot the round that was published last, 0 at first; the round of s is s div N, plus 1. A table in fixed memory, as
-// large as the largest ring.
+// For each slot the round that was published last; the round of s is s div N, plus 1, and 0 stands for none, by the rule of
+// rounds. A table in fixed memory, as large as the largest ring.
 pub type Rounds = [u64; 256];
 
 #[derive(Drop)]
@@ -128,7 +128,7 @@ impl Sequencer for Multi {
     fn first(&self, from: u64) -> u64 {
         let next = self.claims.next;
         let mut s = from.max(self.oldest());
-        // a loop, since the sequence at which it breaks is its value
+        // a loop that yields a sequence by `break`: the project keeps this form here
         loop {
             if s >= next {
                 break next;

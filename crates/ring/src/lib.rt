@@ -100,6 +100,7 @@ impl<'a, E: Event> Ring<'a, E> {
         ensures events { self.new.events.now ≡ self.old.events.now }
         ensures same_memory { SameMemory self.old self.new }
     {
+        // an index, since the slice is handed to the function that writes
         if let Some(at) = self.place(s, i)
             && at < self.marks.len()
         {

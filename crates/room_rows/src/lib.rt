@@ -36,7 +36,7 @@ mod tests {
     use std::test::Fail;
 
     // Makes a room with one stage, runs the calls, and tells whether the answers are the ones expected, a refusal by its
-    // number.
+    // number, since the table's numbers are what is tested.
     fn answers_to<S: Sequencer + Drop, const N: usize>(
         rt: &impl Abort,
         ring: &mut Ring<'_, Cue>,

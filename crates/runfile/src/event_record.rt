@@ -53,8 +53,9 @@ impl EventRecord for Packet {
     ghost few = { Prim.search rules };
 
     fn read(file: &[u8], at: usize) -> Result<Packet, Fault> {
+        let [channel, length, ..] = *file[at..at + 4].as_array::<4>().unwrap();
         let text = file[at + 4..at + Self::SIZE].as_array().unwrap();
-        Packet::new(file[at], file[at + 1], text).map_err(|why| Fault { why, place: at })
+        Packet::new(channel, length, text).map_err(|why| Fault { why, place: at })
     }
 }
 

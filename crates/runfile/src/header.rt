@@ -1,5 +1,5 @@
 // The header of a run file: 48 bytes.
-ghost use Rattle.std.specs.Prelude.{◌≡◌, ◌+◌, ◌^◌, ◌<◌, ◌≤◌, length, OnOk};
+ghost use Rattle.std.specs.Prelude.{◌≡◌, ◌+◌, ◌<◌, ◌≤◌, length, OnOk};
 ghost use Rattle.events.specs.Records.{u32_at, u64_at};
 ghost use Rattle.events.specs.Refusals.{reply};
 ghost use Rattle.runfile.specs.Header.{capacity_of, event_kind, event_size, header_of, kind_of, producers_of, section_of, sequencer_kind, sequencer_of, sized, stage_count_of, start_of};
@@ -147,6 +147,7 @@ impl Fields<'_> {
         u32_at(self.file, at).unwrap()
     }
 
+    // The two kinds are read by two functions, since one over any kind could not equate what it answers.
     fn kind(&self) -> Result<EventKind, Fault>
         ensures { told result ≡ kind_of self.now.file.now }
     {

@@ -67,6 +67,7 @@ fn read_stage(
         place: at,
     };
     let [code, mask, tested, last] = *file[at..at + 4].as_array::<4>().unwrap();
+    // two bytes, as the file has it; from here on an Option
     let sieved = code >= 16;
     let number = if sieved { code - 16 } else { code };
     let work = work_of(kind, number).ok_or(fault)?;
@@ -76,7 +77,7 @@ fn read_stage(
     if sieved {
         let mut all = *masks;
         all[i] = mask;
-        if !names(reach(&all, i), tested as usize) {
+        if !names(reach(&all, i), usize::from(tested)) {
             return Err(fault);
         }
     } else if tested != 0 {
@@ -89,7 +90,7 @@ fn read_stage(
     })
 }
 
-// The stage records of a section.
+// The stage records of a section. That they lie in the file is asked of each reader by itself, since each reads another size.
 #[tactic(auto, using(crate::proofs::Records::lineup_step), unfolding(crate::specs::Lineup::lineup_from))]
 pub(crate) fn read_lineup(file: &[u8], section: Section, kind: EventKind) -> Result<Lineup, Fault>
     requires within { section.start + section.count * 4 ≤ length file.now }

@@ -1,9 +1,9 @@
 // Calls on a room, as data.
-ghost use Rattle.std.specs.Prelude.{◌≡◌, map};
+ghost use Rattle.std.specs.Prelude.{◌≡◌};
 ghost use Rattle.events.specs.Refusals.{reply};
 ghost use Rattle.machine.specs.Calls.{called};
 ghost use Rattle.ring.specs.Memory.{SameMemory};
-ghost use Rattle.room.specs.Rooms.{room_of, world_by};
+ghost use Rattle.room.specs.Rooms.{world_by};
 ghost use Rattle.schedule.specs.Schedule.{call_of, events_called};
 
 use bank::Bank;
@@ -25,7 +25,7 @@ pub enum Call<E> {
     Commit { stage: usize },
 }
 
-// Makes one call; a handle's mark is its answer.
+// Makes one call; a handle's mark is its answer. Ring and bank come with each call, since a room keeps neither.
 pub fn make_call<S: Sequencer, E: Event, B: Bank<E>>(
     room: &mut Room<S>,
     ring: &mut Ring<'_, E>,

@@ -22,7 +22,7 @@ use sequencer::Sequencer;
 pub type Answer = Result<u64, Refusal>;
 
 // Makes calls one after another, refused ones too, and writes their answers, for which there are as many places: memory of the
-// caller's, so they stand beside the calls.
+// caller's, so they stand beside the calls, as ring and bank beside the room.
 pub fn run<S: Sequencer, E: Event, B: Bank<E>>(
     room: &mut Room<S>,
     ring: &mut Ring<'_, E>,

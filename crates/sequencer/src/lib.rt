@@ -23,6 +23,7 @@ pub trait Sequencer: Sized {
     fn fresh(capacity: u64, start: u64) -> Result<Self, Refusal>
         ensures { replied means result ≡ fresh ordered capacity start };
 
+    // With three facts of it, since callers see the trait alone.
     fn capacity(&self) -> u64
         ensures value { result ≡ (means self.now).slots }
         ensures capacity { is_capacity result ≡ true }
@@ -46,7 +47,7 @@ pub trait Sequencer: Sized {
     fn claim(&mut self, n: u64, gate: u64) -> Result<u64, Refusal>
         ensures { record { answer = reply result; after = means self.new } ≡ claimed (means self.old) n gate };
 
-    // Publishes the sequences from lo to below hi; answers hi.
+    // Publishes the sequences from lo to below hi; answers hi. Two numbers and no range, since any two may be given.
     fn publish(&mut self, lo: u64, hi: u64) -> Result<u64, Refusal>
         ensures { record { answer = reply result; after = means self.new } ≡ published (means self.old) lo hi };
 

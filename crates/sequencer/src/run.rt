@@ -34,6 +34,7 @@ pub fn take_steps<S: Sequencer>(sequencer: &mut S, steps: &[Step]) -> usize
     ensures open_set { OpenSet }
 {
     let mut accepted = 0;
+    // no filter, since a step is taken for what it leaves
     for step in steps {
         if take_step(sequencer, *step).is_ok() {
             accepted += 1;

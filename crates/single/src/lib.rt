@@ -2,7 +2,7 @@
 
 #![tactic(auto)]
 
-ghost use Rattle.std.specs.Prelude.{◌≡◌, ◌+◌, ◌≤◌, true};
+ghost use Rattle.std.specs.Prelude.{◌+◌, ◌≤◌, true};
 ghost use Rattle.sequencer.specs.Claims.{sequencing};
 ghost use Rattle.sequencer.specs.Sequencer.{between};
 ghost use Rattle.sequencer.proofs.Sets.{between_parts};

@@ -9,7 +9,7 @@ pub trait Figures {
         ensures value { result ≡ length (figures self.now) }
         ensures few { result ≤ 64 };
 
-    // Figure k, counted from 0, or 0 past the last.
+    // Figure k, counted from 0, or 0 past the last, as the rule of figures has it: no Option.
     fn figure(&self, k: usize) -> u64
         ensures { result ≡ slice_index (figures self.now) k };
 }

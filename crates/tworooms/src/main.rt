@@ -36,6 +36,7 @@ fn main(rt: HostRuntime) -> io::Result<()> {
     let mut east_answers: [Answer; 49] = [Ok(0); 49];
     let mut west = new_bank();
     let mut west_answers: [Answer; 56] = [Ok(0); 56];
+    // each room its own memory, written out, since a length cannot be computed from another
     let mut events = [<Cue as Event>::blank(); 4];
     let mut marks = [0; 32];
     let mut ring = Ring::new(&mut events, &mut marks);
@@ -44,6 +45,7 @@ fn main(rt: HostRuntime) -> io::Result<()> {
     let mut marks = [0; 64];
     let mut ring = Ring::new(&mut events, &mut marks);
     play_room::<Multi>(&rt, &WEST, &mut ring, &mut west, &mut west_answers)?;
+    // by number, as the two functions take a stage
     for stage in 0..MASKS.len() {
         print_figures(&rt, stage, &east, &west)?;
         print_marks(&rt, stage, &east_answers, &west_answers)?;
@@ -51,6 +53,7 @@ fn main(rt: HostRuntime) -> io::Result<()> {
     Ok(())
 }
 
+// The stages that asrun has too: each program says its own.
 fn new_bank() -> Stages {
     Then {
         stage: Check::new(),

@@ -2,11 +2,10 @@
 // size than the room's.
 ghost use Rattle.std.specs.Prelude.{◌≡◌, ℕ, ◌<◌, ◌≤◌, Bool, true, IfOk, length};
 ghost use Rattle.events.specs.Refusals.{replied, reply};
-ghost use Rattle.machine.specs.Machine.{fits, least_done, new_gate, on_claim, on_commit, on_gate, on_handle, on_look, on_publish, on_write};
+ghost use Rattle.machine.specs.Machine.{fits, least_done, on_claim, on_commit, on_gate, on_handle, on_look, on_publish, on_write};
 ghost use Rattle.playout.specs.Plan.{layout};
 ghost use Rattle.ring.specs.Memory.{SameMemory};
-ghost use Rattle.room.specs.Rooms.{events_written, place_found, room_of, side_found, world_by};
-ghost use Rattle.stages.specs.Marks.{names as named};
+ghost use Rattle.room.specs.Rooms.{events_written, place_found, side_found, world_by};
 
 use crate::room::Room;
 use bank::Bank;
@@ -43,13 +42,14 @@ impl<S: Sequencer> Room<S> {
         if !self.fits(ring, bank) {
             return Err(Refusal::SizeMismatch);
         }
-        if producer >= self.producers {
-            return Err(Refusal::NoSuchProducer);
-        }
-        Ok(self.sides[producer])
+        self.sides[..self.producers]
+            .get(producer)
+            .copied()
+            .ok_or(Refusal::NoSuchProducer)
     }
 
-    // What the room keeps of a stage, if ring and bank are of the room's size and there is such a stage.
+    // What the room keeps of a stage, if ring and bank are of the room's size and there is such a stage. Its own function, since
+    // table, number and refusal all differ from a producer's.
     fn place<E: Event, B: Bank<E>>(
         &self,
         ring: &Ring<'_, E>,
@@ -63,10 +63,10 @@ impl<S: Sequencer> Room<S> {
         if !self.fits(ring, bank) {
             return Err(Refusal::SizeMismatch);
         }
-        if stage >= self.plan.stages() {
-            return Err(Refusal::NoSuchStage);
-        }
-        Ok(self.places[stage])
+        self.places[..self.plan.stages()]
+            .get(stage)
+            .copied()
+            .ok_or(Refusal::NoSuchStage)
     }
 
     // The least that any stage of these has committed; the end of all sequences if there is none, as the room machine has it.
