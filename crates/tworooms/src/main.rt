@@ -32,11 +32,11 @@ type Stages = Then<Check, Then<Sieve<Air>, Last<Journal>>>;
 const MASKS: [u8; 3] = [0b000, 0b001, 0b011];
 
 fn main(rt: HostRuntime) -> io::Result<()> {
+    // each room and its answers in memory of their own, written out, since a length cannot be computed from another
     let mut east = new_bank();
     let mut east_answers: [Answer; 49] = [Ok(0); 49];
     let mut west = new_bank();
     let mut west_answers: [Answer; 56] = [Ok(0); 56];
-    // each room its own memory, written out, since a length cannot be computed from another
     let mut events = [<Cue as Event>::blank(); 4];
     let mut marks = [0; 32];
     let mut ring = Ring::new(&mut events, &mut marks);
