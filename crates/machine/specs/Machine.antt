@@ -90,10 +90,10 @@ abbrev pub leaves : World → Reply ℕ → World → Left
 leaves w answer after = record { answer = answer; after = left answer w after }
 
 -- every call refuses 11 first; then there is no such producer, or no such stage
-abbrev pub for_producer : World → ℕ → List (Bool × ℕ) → Reply ℕ → Reply ℕ
+abbrev pub for_producer : {A : Type 0} → World → ℕ → List (Bool × ℕ) → Reply A → Reply A
 for_producer w p tests answer = unless ((not (fits w), 11) ∷ (nat_le w.room.producers p, 13) ∷ tests) answer
 
-abbrev pub for_stage : World → ℕ → List (Bool × ℕ) → Reply ℕ → Reply ℕ
+abbrev pub for_stage : {A : Type 0} → World → ℕ → List (Bool × ℕ) → Reply A → Reply A
 for_stage w i tests answer = unless ((not (fits w), 11) ∷ (nat_le w.room.plan.stages i, 14) ∷ tests) answer
 
 -- gate: the producer's gate becomes the least `done` of the gating stages

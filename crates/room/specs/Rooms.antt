@@ -1,6 +1,6 @@
 -- What a room, its ring and its bank mean. Assumes nothing.
-use Rattle.std.specs.Prelude.{ℕ, cond, not, List, [], ◌∷◌, map, Some, None, Option, nat_le, nat_lt, slice_index_or}
-use Rattle.events.specs.Refusals.{Reply, accepted, refused, unless}
+use Rattle.std.specs.Prelude.{ℕ, cond, List, [], map, Some, None, Option, nat_lt, slice_index_or}
+use Rattle.events.specs.Refusals.{Reply, accepted, refused}
 use Rattle.playout.specs.Plan.{layout}
 use Rattle.machine.specs.Machine as machine
 use Rattle.ring.specs.Ring.{written}
@@ -29,10 +29,10 @@ place_in stages places i = cond (nat_lt i stages) (Some (slice_index_or places i
 
 -- What the room keeps of a producer and of a stage, or what every call on them refuses first.
 abbrev pub side_found : machine.World → ℕ → Reply Producer
-side_found w p = unless ((not (machine.fits w), 11) ∷ (nat_le w.room.producers p, 13) ∷ []) (accepted (machine.side_of w.room p))
+side_found w p = machine.for_producer w p [] (accepted (machine.side_of w.room p))
 
 abbrev pub place_found : machine.World → ℕ → Reply Progress
-place_found w i = unless ((not (machine.fits w), 11) ∷ (nat_le w.room.plan.stages i, 14) ∷ []) (accepted (machine.place_of w.room i))
+place_found w i = machine.for_stage w i [] (accepted (machine.place_of w.room i))
 
 -- The events of a ring themselves, of which the machine knows the words: an accepted write puts its event into the slot of
 -- the sequence that it returned.

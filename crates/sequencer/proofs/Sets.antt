@@ -12,9 +12,6 @@ between_in from upto s low high = grind (arith, nat_tests)
 pub between_below : (from upto s : ℕ) → s < from → between from upto s ≡ false
 between_below from upto s h = grind (arith, nat_tests)
 
-pub between_past : (from upto s : ℕ) → upto ≤ s → between from upto s ≡ false
-between_past from upto s h = grind (arith, nat_tests)
-
 pub between_parts : (from upto s : ℕ) → between from upto s ≡ true → (from ≤ s) × (s < upto)
 between_parts from upto s e = (grind (arith, nat_tests), grind (arith, nat_tests))
 
