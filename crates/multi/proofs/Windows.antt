@@ -66,7 +66,7 @@ after_own slots rounds lo (suc n) k some table few h = go (cases_lt k n) (λ low
         after_last slots rounds lo n ((lo + k) % slots) some table (ap (λ m. (lo + m) % slots) (sym same)) ∙ ap (λ m. round_of slots (lo + m)) same
 
 -- every round is that of a claimed sequence
-rounds_claimed : (slots : ℕ) (rounds : List ℕ) (lo n next : ℕ) → 1 ≤ slots → slots ≤ length rounds → lo + n ≤ next → ((i : ℕ) → i < slots → slice_index rounds i * slots + i < next + slots) → (i : ℕ) → i < slots → slice_index (rounds_after slots rounds lo n) i * slots + i < next + slots
+pub rounds_claimed : (slots : ℕ) (rounds : List ℕ) (lo n next : ℕ) → 1 ≤ slots → slots ≤ length rounds → lo + n ≤ next → ((i : ℕ) → i < slots → slice_index rounds i * slots + i < next + slots) → (i : ℕ) → i < slots → slice_index (rounds_after slots rounds lo n) i * slots + i < next + slots
 unfolding rounds_after
 rounds_claimed slots rounds lo zero next some table end each i h = each i h
 rounds_claimed slots rounds lo (suc n) next some table end each i h =
@@ -92,7 +92,7 @@ open_more slots start next n end rounds some begun each few at closed = fun_ext 
     go s (inr new) (inr far) c = grind (arith, nat_tests)
 
 -- the set when those from lo to below hi are published
-open_published : (slots start next lo hi : ℕ) (rounds : List ℕ) → 1 ≤ slots → slots ≤ length rounds → oldest slots start next ≤ lo → lo ≤ hi → hi ≤ next → open_by slots start next (rounds_after slots rounds lo (hi - lo)) ≡ (λ s. open_by slots start next rounds s && not (between lo hi s))
+pub open_published : (slots start next lo hi : ℕ) (rounds : List ℕ) → 1 ≤ slots → slots ≤ length rounds → oldest slots start next ≤ lo → lo ≤ hi → hi ≤ next → open_by slots start next (rounds_after slots rounds lo (hi - lo)) ≡ (λ s. open_by slots start next rounds s && not (between lo hi s))
 open_published slots start next lo hi rounds some table low order high = fun_ext (λ s. go s (cases_lt s (oldest slots start next)) (cases_lt s next) (cases_lt s lo) (cases_lt s hi))
   where
     go : (s : ℕ) → (s < oldest slots start next) ⊎ (oldest slots start next ≤ s) → (s < next) ⊎ (next ≤ s) → (s < lo) ⊎ (lo ≤ s) → (s < hi) ⊎ (hi ≤ s) → open_by slots start next (rounds_after slots rounds lo (hi - lo)) s ≡ (open_by slots start next rounds s && not (between lo hi s))
@@ -111,12 +111,12 @@ open_published slots start next lo hi rounds some table low order high = fun_ext
         grind (arith, nat_tests, own)
 
 -- what is all open lies in the window
-record Within (slots start next lo hi : ℕ) : Type 0 where
-  some : lo < hi
-  low : oldest slots start next ≤ lo
-  high : hi ≤ next
+pub record Within (slots start next lo hi : ℕ) : Type 0 where
+  pub some : lo < hi
+  pub low : oldest slots start next ≤ lo
+  pub high : hi ≤ next
 
-publish_window : (slots start next : ℕ) (rounds : List ℕ) (lo hi : ℕ) → true ≡ (nat_lt lo hi && all_from (open_by slots start next rounds) lo (hi - lo)) → Within slots start next lo hi
+pub publish_window : (slots start next : ℕ) (rounds : List ℕ) (lo hi : ℕ) → true ≡ (nat_lt lo hi && all_from (open_by slots start next rounds) lo (hi - lo)) → Within slots start next lo hi
 publish_window slots start next rounds lo hi all =
     let set : ℕ → Bool = open_by slots start next rounds in
     let both = and_parts (nat_lt lo hi) (all_from set lo (hi - lo)) (sym all) in
@@ -124,6 +124,15 @@ publish_window slots start next rounds lo hi all =
     let first = open_window slots start next rounds (lo + 0) (all_at set lo (hi - lo) 0 both.1 (omega arith)) in
     let last = open_window slots start next rounds (lo + (hi - lo - 1)) (all_at set lo (hi - lo) (hi - lo - 1) both.1 (omega arith)) in
     record { some = some; low = omega arith; high = omega arith }
+
+-- so nothing that reaches out of it is
+pub not_all_open : (slots start next : ℕ) (rounds : List ℕ) (lo hi : ℕ) → (lo < oldest slots start next) ⊎ (next < hi) → (nat_lt lo hi && all_from (open_by slots start next rounds) lo (hi - lo)) ≡ false
+not_all_open slots start next rounds lo hi out = go _ refl out
+  where
+    go : (all : Bool) → all ≡ (nat_lt lo hi && all_from (open_by slots start next rounds) lo (hi - lo)) → (lo < oldest slots start next) ⊎ (next < hi) → (nat_lt lo hi && all_from (open_by slots start next rounds) lo (hi - lo)) ≡ false
+    go true all (inl below) = let window = publish_window slots start next rounds lo hi all in absurd (omega (arith, window.low))
+    go true all (inr past) = let window = publish_window slots start next rounds lo hi all in absurd (omega (arith, window.high))
+    go false none out = sym none
 
 -- publishing what is all open
 module _ (slots start next lo hi : ℕ) (rounds after : List ℕ) (some : 1 ≤ slots) (table : slots ≤ length rounds) (all : true ≡ (nat_lt lo hi && all_from (open_by slots start next rounds) lo (hi - lo))) (left : after ≡ rounds_after slots rounds lo (hi - lo)) where

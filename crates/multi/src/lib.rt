@@ -54,7 +54,11 @@ impl Multi {
     fn all_open(&self, lo: u64, hi: u64) -> bool
         ensures { result ≡ (nat_lt lo hi && all_from (open_in self.now) lo (hi - lo)) }
     {
-        lo < hi && (lo..hi).all(|s| self.is_open(s))
+        // the window first, so that what reaches past it is refused without a scan
+        lo < hi
+            && hi <= self.claims.next
+            && lo >= self.oldest()
+            && (lo..hi).all(|s| self.is_open(s))
     }
 }
 
@@ -63,9 +67,10 @@ impl Multi {
 fn publish_rounds(rounds: &mut Rounds, claims: &Claims, lo: u64, hi: u64)
     ensures { rounds.new ≡ rounds_after claims.now.slots rounds.old lo (hi - lo) }
 {
+    let slots = claims.slots; // read once, since each turn writes
     // a sequence finds its slot by division, so no iterator over the slots serves
     for s in lo..hi {
-        rounds[(s % claims.slots) as usize] = s / claims.slots + 1;
+        rounds[(s % slots) as usize] = s / slots + 1;
     }
 }
 

@@ -77,9 +77,13 @@ impl<S: Sequencer> Room<S> {
         self.places[..self.plan.stages()]
             .iter()
             .enumerate()
-            .filter(|(stage, _)| among(*stage))
-            .map(|(_, place)| place.done)
-            .fold(SEQUENCE_END, u64::min)
+            .fold(SEQUENCE_END, |least, (stage, place)| {
+                if among(stage) {
+                    least.min(place.done)
+                } else {
+                    least
+                }
+            })
     }
 
     // Gate: a producer learns how far all gating stages have committed.
