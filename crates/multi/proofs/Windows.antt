@@ -129,10 +129,10 @@ publish_window slots start next rounds lo hi all =
 pub not_all_open : (slots start next : ℕ) (rounds : List ℕ) (lo hi : ℕ) → (lo < oldest slots start next) ⊎ (next < hi) → (nat_lt lo hi && all_from (open_by slots start next rounds) lo (hi - lo)) ≡ false
 not_all_open slots start next rounds lo hi out = go _ refl out
   where
-    go : (all : Bool) → all ≡ (nat_lt lo hi && all_from (open_by slots start next rounds) lo (hi - lo)) → (lo < oldest slots start next) ⊎ (next < hi) → (nat_lt lo hi && all_from (open_by slots start next rounds) lo (hi - lo)) ≡ false
+    go : (all : Bool) → all ≡ (nat_lt lo hi && all_from (open_by slots start next rounds) lo (hi - lo)) → (lo < oldest slots start next) ⊎ (next < hi) → all ≡ false
     go true all (inl below) = let window = publish_window slots start next rounds lo hi all in absurd (omega (arith, window.low))
     go true all (inr past) = let window = publish_window slots start next rounds lo hi all in absurd (omega (arith, window.high))
-    go false none out = sym none
+    go false none out = refl
 
 -- publishing what is all open
 module _ (slots start next lo hi : ℕ) (rounds after : List ℕ) (some : 1 ≤ slots) (table : slots ≤ length rounds) (all : true ≡ (nat_lt lo hi && all_from (open_by slots start next rounds) lo (hi - lo))) (left : after ≡ rounds_after slots rounds lo (hi - lo)) where
